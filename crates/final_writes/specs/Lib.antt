@@ -1,0 +1,2 @@
+-- Final writes: a block access list under a plan.
+pub mod FinalWrites

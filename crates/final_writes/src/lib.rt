@@ -1,0 +1,4 @@
+// Final writes: definitions.
+
+// The two areas that final writes are put into.
+pub const OUTPUTS: usize = 2;

@@ -1,0 +1,222 @@
+-- The image of a store in bytes (docs/LAYOUT.md), and which bytes are a store.
+use Prim.Native.Nat.{ℕ, zero, suc, pred, _+_, _-_, _*_}
+use mathlib.Core.Bool.{Bool, true, false, not, _&&_, cond}
+use mathlib.Core.List.{List, [], _∷_, _++_, map}
+use mathlib.Core.Option.{Option, some, none}
+use lib.Dec.{eqb, leb}
+use lib.ListN.{length, take, drop, getD, replicate}
+use Rattle.model.specs.declared.storage_memo.Address.{Address}
+use Rattle.model.specs.declared.storage_memo.U256.{U256}
+use Rattle.model.specs.declared.delta_snapshot.Slot.{Slot}
+use Rattle.model.specs.declared.storage_memo.BlockHash.{BlockHash}
+use Rattle.model.specs.declared.storage_memo.ReadAnchor.{ReadAnchor}
+use Rattle.model.specs.declared.delta_snapshot.Retention.{Retention}
+use Rattle.model.specs.declared.storage_memo.BlockHash.the-variants.{Unknown, Known}
+use Rattle.model.specs.declared.delta_snapshot.Retention.the-variants.{Unbounded, IdleBlocks}
+use Rattle.model.specs.Slots.{slot-words, u256-words, words-eqb}
+use Rattle.model.specs.Layers.{Content, use-only, valued, Record, Layer, record-count}
+use Rattle.model.specs.declared.read_hub.ReadTotals.{ReadTotals}
+use Rattle.model.specs.Reads.{Pending, no-reads}
+use Rattle.model.specs.Store.{Config, Generation, Store, Call, chain, Memory}
+use Rattle.model.specs.Numbers.{be, num}
+use Rattle.model.specs.Refusals.{LentCall, StepResult, Answer, refused, step}
+use Rattle.image.specs.WellFormed.{well-formed}
+
+-- Words in bytes --------------------------------------------------------------------------------------
+
+-- The bytes of words, eight a word, and the first n words that bytes give.
+unfoldable pub bytes-of : List ℕ → List ℕ
+bytes-of [] = []
+bytes-of (w ∷ ws) = be 8 w ++ bytes-of ws
+
+unfoldable pub words-of : ℕ → List ℕ → List ℕ
+words-of zero l = []
+words-of (suc n) l = num (take 8 l) ∷ words-of n (drop 8 l)
+
+-- A state's words -------------------------------------------------------------------------------------
+
+abbrev pub flag : Bool → ℕ
+flag true = 1
+flag false = 0
+
+abbrev pub retention-words : Retention → List ℕ
+retention-words Unbounded = 0 ∷ 0 ∷ []
+retention-words (IdleBlocks n) = 1 ∷ n ∷ []
+
+abbrev pub hash-words : BlockHash → List ℕ
+hash-words Unknown = 0 ∷ 0 ∷ 0 ∷ 0 ∷ 0 ∷ []
+hash-words (Known h) = 1 ∷ u256-words h
+
+abbrev pub totals-words : ReadTotals → List ℕ
+totals-words t = t .accepted ∷ t .served ∷ t .waiting ∷ t .valued ∷ t .refused ∷ t .rounds ∷ t .members ∷ t .errors ∷ t .coalesced ∷ []
+
+abbrev pub content-words : Content → List ℕ
+content-words (use-only u) = u ∷ 0 ∷ 0 ∷ 0 ∷ 0 ∷ 0 ∷ []
+content-words (valued u v) = u ∷ 1 ∷ u256-words v
+
+-- A record has 13 words, an awaiting slot 9.
+abbrev pub record-words : Record → List ℕ
+record-words r = slot-words (r .slot) ++ content-words (r .content)
+
+abbrev pub pending-words : Pending → List ℕ
+pending-words w = slot-words (w .slot) ++ (w .waiters ∷ flag (w .taken) ∷ [])
+
+unfoldable pub all-record-words : List Record → List ℕ
+all-record-words [] = []
+all-record-words (r ∷ rs) = record-words r ++ all-record-words rs
+
+unfoldable pub all-pending-words : List Pending → List ℕ
+all-pending-words [] = []
+all-pending-words (w ∷ q) = pending-words w ++ all-pending-words q
+
+-- The records of layers (the newest first) in the store's order: the lowest layer first.
+unfoldable pub flat-records : List Layer → List Record
+flat-records [] = []
+flat-records (l ∷ ls) = flat-records ls ++ l
+
+-- For each layer, the lowest first, the number of records of it and all below.
+unfoldable pub layer-ends : List Layer → List ℕ
+layer-ends [] = []
+layer-ends (l ∷ ls) = layer-ends ls ++ (record-count (l ∷ ls) ∷ [])
+
+-- A list filled up with 0 to a length: unused words are 0.
+abbrev pub padded : ℕ → List ℕ → List ℕ
+padded n l = l ++ replicate (n - length l) 0
+
+-- The first word of every store: the letters `poxilme` and the layout's number.
+abbrev pub magic : ℕ
+magic = 0x706f78696c6d6501
+
+-- Words 0 to 4: what the open set.
+abbrev pub config-words : Config → List ℕ
+config-words cfg = magic ∷ cfg .capacity ∷ cfg .max-depth ∷ retention-words (cfg .retention)
+
+-- Words 5 to 23: whether a generation is installed, its anchor, depth, numbers of records and awaiting slots, totals.
+abbrev pub generation-words : Generation → List ℕ
+generation-words g =
+    1 ∷ g .anchor .number ∷ (hash-words (g .anchor .hash) ++ (pred (length (g .base)) ∷ record-count (chain g) ∷ length (g .pending) ∷ totals-words (g .totals)))
+
+-- From word 24 on: 256 layer ends, 64 awaiting slots, the records up to the capacity.
+abbrev pub table-words : ℕ → List ℕ → List ℕ → List ℕ → List ℕ
+table-words capacity ends awaiting records = padded 256 ends ++ (padded 576 awaiting ++ padded (13 * capacity) records)
+
+abbrev pub installed-words : ℕ → Option Generation → List ℕ
+installed-words capacity none = replicate 19 0 ++ table-words capacity [] [] []
+installed-words capacity (some g) = generation-words g ++ table-words capacity (layer-ends (g .base)) (all-pending-words (g .pending)) (all-record-words (flat-records (chain g)))
+
+unfoldable pub image-words : Store → List ℕ
+image-words st = config-words (st .config) ++ installed-words (st .config .capacity) (st .installed)
+
+-- The image of a store.
+unfoldable pub image : Store → List ℕ
+image st = bytes-of (image-words st)
+
+-- Reading a state ---------------------------------------------------------------------------------------
+
+-- The n words from place i on.
+abbrev pub part : ℕ → ℕ → List ℕ → List ℕ
+part i n l = take n (drop i l)
+
+abbrev pub read-u256 : List ℕ → U256
+read-u256 l = record { w0 = getD l 0 0; w1 = getD l 1 0; w2 = getD l 2 0; w3 = getD l 3 0 }
+
+abbrev pub read-slot : List ℕ → Slot
+read-slot l = record { address = record { w0 = getD l 0 0; w1 = getD l 1 0; w2 = getD l 2 0 }; index = read-u256 (drop 3 l) }
+
+abbrev pub read-content : List ℕ → Content
+read-content l = cond (eqb (getD l 1 0) 0) (use-only (getD l 0 0)) (valued (getD l 0 0) (read-u256 (drop 2 l)))
+
+abbrev pub read-record : List ℕ → Record
+read-record l = record { slot = read-slot l; content = read-content (drop 7 l) }
+
+abbrev pub read-pending : List ℕ → Pending
+read-pending l = record { slot = read-slot l; waiters = getD l 7 0; taken = not (eqb (getD l 8 0) 0) }
+
+-- n entries of w words each.
+unfoldable pub entries : ℕ → ℕ → List ℕ → List (List ℕ)
+entries w zero l = []
+entries w (suc n) l = take w l ∷ entries w n (drop w l)
+
+-- The layers (the newest first) that ends cut records into, and what is left above them; the records before `from` are cut already, into `b`.
+pub record Cut : Type 0 where
+  pub base : List Layer
+  pub top : Layer
+
+unfoldable pub cut : ℕ → List ℕ → List Record → List Layer → Cut
+cut from [] rs b = record { base = b; top = rs }
+cut from (e ∷ es) rs b = cut e es (drop (e - from) rs) (take (e - from) rs ∷ b)
+
+abbrev pub read-retention : List ℕ → Retention
+read-retention l = cond (eqb (getD l 0 0) 0) Unbounded (IdleBlocks (getD l 1 0))
+
+abbrev pub read-hash : List ℕ → BlockHash
+read-hash l = cond (eqb (getD l 0 0) 0) Unknown (Known (read-u256 (drop 1 l)))
+
+abbrev pub read-totals : List ℕ → ReadTotals
+read-totals l = record { accepted = getD l 0 0; served = getD l 1 0; waiting = getD l 2 0; valued = getD l 3 0; refused = getD l 4 0; rounds = getD l 5 0; members = getD l 6 0; errors = getD l 7 0; coalesced = getD l 8 0 }
+
+-- The generation that the words of a store give.
+unfoldable pub read-generation : List ℕ → Generation
+read-generation l =
+    let c : Cut = cut 0 (part 24 (suc (getD l 12 0)) l) (map read-record (entries 13 (getD l 13 0) (drop 856 l))) [] in
+    record {
+      anchor = record { number = getD l 6 0; hash = read-hash (drop 7 l) };
+      base = c .base;
+      top = c .top;
+      pending = map read-pending (entries 9 (getD l 14 0) (drop 280 l));
+      totals = read-totals (drop 15 l);
+    }
+
+unfoldable pub read-store : List ℕ → Store
+read-store l =
+    record {
+      config = record { capacity = getD l 1 0; max-depth = getD l 2 0; retention = read-retention (drop 3 l) };
+      installed = cond (eqb (getD l 5 0) 0) none (some (read-generation l));
+    }
+
+-- The number of words of a store of a capacity.
+abbrev pub store-words : ℕ → ℕ
+store-words capacity = 856 + 13 * capacity
+
+-- The lent bytes as a store: they begin with the image of the well-formed state that they read as, or they are not a store. Bytes past the image are no part of it.
+unfoldable pub decode : List ℕ → Memory
+decode b =
+    let n : ℕ = store-words (num (take 8 (drop 8 b))) in
+    let ws : List ℕ = words-of n b in
+    let st : Store = read-store ws in
+    cond (leb (8 * n) (length b) && (well-formed st && words-eqb ws (image-words st))) (some st) none
+
+-- Calls on bytes ----------------------------------------------------------------------------------------
+
+-- The lent bytes after an accepted call: the new image, and past it the bytes as they were.
+abbrev pub overlay : Memory → List ℕ → List ℕ
+overlay none b = b
+overlay (some st) b = image st ++ drop (length (image st)) b
+
+abbrev pub bytes-after : StepResult → List ℕ → List ℕ
+bytes-after o b = cond (refused (o .answer)) b (overlay (o .memory) b)
+
+-- A call on lent bytes, with the sizes of its work area and output: its answer, and the bytes after it.
+pub record BytesCall : Type 0 where
+  pub call : Call
+  pub work-bytes : ℕ
+  pub output-entries : ℕ
+
+pub record BytesResult : Type 0 where
+  pub bytes : List ℕ
+  pub answer : Answer
+
+abbrev pub lent-call : ℕ → BytesCall → LentCall
+lent-call n c = record { call = c .call; lent = record { store-bytes = n; work-bytes = c .work-bytes; output-entries = c .output-entries } }
+
+unfoldable pub bytes-step : List ℕ → BytesCall → BytesResult
+bytes-step b c = let o : StepResult = step (decode b) (lent-call (length b) c) in record { bytes = bytes-after o b; answer = o .answer }
+
+-- The answers of a list of calls on lent bytes, and the bytes after it.
+unfoldable pub bytes-trace : List ℕ → List BytesCall → List Answer
+bytes-trace b [] = []
+bytes-trace b (c ∷ cs) = let o : BytesResult = bytes-step b c in o .answer ∷ bytes-trace (o .bytes) cs
+
+unfoldable pub bytes-final : List ℕ → List BytesCall → List ℕ
+bytes-final b [] = b
+bytes-final b (c ∷ cs) = bytes-final (bytes-step b c .bytes) cs

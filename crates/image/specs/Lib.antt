@@ -1,0 +1,5 @@
+-- Well-formed stores, their image in bytes, and calls on bytes.
+pub mod WellFormed
+pub mod Image
+pub mod Claims
+pub mod Area

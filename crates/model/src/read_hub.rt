@@ -1,0 +1,38 @@
+// read_hub.rs: the outcome of an advance, and the totals of a generation's reads.
+
+// How a child stands to the installed anchor: linked, or the reason why not (the source's `CarryRefusal`).
+pub enum Lineage {
+    Linked,
+    NoParent,
+    NotConsecutive,
+    ParentHashUnknown,
+    ParentHashMismatch,
+}
+
+// Why a child's list of writes was not read, if it was not.
+pub enum BalSkip {
+    Decoded,
+    NoAnchorHash,
+    Rpc,
+    Decode,
+}
+
+// What an advance did.
+pub enum CarryOutcome {
+    AlreadyCurrent,
+    Carried(u64),
+    Cold(Lineage, BalSkip),
+}
+
+// The running totals of a generation's reads.
+pub struct ReadTotals {
+    pub accepted: u64,
+    pub served: u64,
+    pub waiting: u64,
+    pub valued: u64,
+    pub refused: u64,
+    pub rounds: u64,
+    pub members: u64,
+    pub errors: u64,
+    pub coalesced: u64,
+}

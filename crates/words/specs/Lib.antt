@@ -1,0 +1,2 @@
+-- Parts of lists of bytes: the definitions that the contracts of `words` cite.
+pub mod Parts

@@ -1,0 +1,15 @@
+//! The oracle: the reference Rust sources, compiled unchanged, driven by call
+//! lists.
+
+pub mod calls;
+pub mod cases;
+pub mod finals;
+pub mod generate;
+pub mod listing;
+pub mod missing;
+pub mod record;
+pub mod session;
+pub mod sweep;
+pub mod tally;
+
+include!(concat!(env!("OUT_DIR"), "/modules.rs"));

@@ -1,0 +1,130 @@
+//! The listing of a call list, as document 01 prints it, and on request the
+//! detail lines that it leaves out.
+
+use crate::calls::{Call, Reader};
+use crate::session::{advance_line, Answer, Refusal, Session};
+use crate::sim::evm2::delta_snapshot::Slot;
+use alloy::primitives::StorageValue;
+use std::fmt::Write as _;
+
+/// One call of a list with its answer. A refusal of bytes that are no call has
+/// no call.
+pub struct Step {
+    pub call: Option<Call>,
+    pub answer: Result<Answer, Refusal>,
+}
+
+/// Run a list; `each` sees every step and the session after it.
+pub fn run(list: &[u8], mut each: impl FnMut(&Step, &Session)) {
+    let mut session = Session::default();
+    let mut reader = Reader::new(list);
+    while let Some(parsed) = reader.next_call() {
+        let step = match parsed {
+            Ok(call) => Step {
+                answer: session.run(&call),
+                call: Some(call),
+            },
+            Err(refusal) => Step {
+                call: None,
+                answer: Err(refusal),
+            },
+        };
+        each(&step, &session);
+        if step.call.is_none() {
+            return;
+        }
+    }
+}
+
+/// The listing.
+pub fn listing(list: &[u8]) -> String {
+    let mut text = String::new();
+    run(list, |step, _| push_lines(&mut text, &step.answer));
+    text
+}
+
+/// The listing with the detail lines.
+pub fn detail(list: &[u8]) -> String {
+    let mut text = String::new();
+    run(list, |step, session| {
+        push_lines(&mut text, &step.answer);
+        if let Ok(answer) = &step.answer {
+            push_detail(&mut text, answer, session);
+        }
+    });
+    text
+}
+
+/// Whether a line of `detail` is one that the listing leaves out.
+pub fn is_detail_line(line: &str) -> bool {
+    line.starts_with("applied ") || line.starts_with("  slot ") || line.starts_with("stats ")
+}
+
+pub fn push_lines(text: &mut String, answer: &Result<Answer, Refusal>) {
+    match answer {
+        Err(refusal) => line(text, &format!("no {refusal}")),
+        Ok(Answer::Open) => line(text, "open"),
+        Ok(Answer::AnchorSame) => line(text, "anchor same"),
+        Ok(Answer::AnchorFresh) => line(text, "anchor fresh"),
+        Ok(Answer::Advanced(report)) => line(text, &advance_line(report)),
+        Ok(Answer::Value(value)) => line(text, &format!("value {}", hex(value))),
+        Ok(Answer::None) => line(text, "none"),
+        Ok(Answer::Wait(waiters)) => line(text, &format!("wait {waiters}")),
+        Ok(Answer::Put) => line(text, "put"),
+        Ok(Answer::Take(slots)) => {
+            line(text, &format!("take {}", slots.len()));
+            for slot in slots {
+                line(text, &format!("slot {}", slot_hex(slot)));
+            }
+        }
+        Ok(Answer::Round { report, woken }) => line(
+            text,
+            &format!(
+                "answer {} {} {woken}",
+                report.storage_members, report.storage_member_errors
+            ),
+        ),
+    }
+}
+
+fn push_detail(text: &mut String, answer: &Answer, session: &Session) {
+    if let Answer::Advanced(report) = answer {
+        line(text, &format!("applied {}", report.writes.len()));
+        for slot in &report.writes {
+            line(text, &format!("  slot {}", slot_hex(slot)));
+        }
+    }
+    if let Some(stats) = session.stats() {
+        line(
+            text,
+            &format!(
+                "stats {} {} {} {}",
+                stats.coalesced, stats.rounds, stats.storage_members, stats.storage_member_errors
+            ),
+        );
+    }
+}
+
+fn line(text: &mut String, line: &str) {
+    text.push_str(line);
+    text.push('\n');
+}
+
+fn push_hex(text: &mut String, bytes: &[u8]) {
+    for byte in bytes {
+        let _ = write!(text, "{byte:02x}");
+    }
+}
+
+pub fn hex(value: &StorageValue) -> String {
+    let mut text = String::new();
+    push_hex(&mut text, &value.0);
+    text
+}
+
+pub fn slot_hex(slot: &Slot) -> String {
+    let mut text = String::new();
+    push_hex(&mut text, &slot.0 .0);
+    push_hex(&mut text, &slot.1 .0);
+    text
+}
