@@ -9,3 +9,4 @@ pub mod Entries
 pub mod Extent
 pub mod ReadBack
 pub mod OnBytes
+pub mod Demand3Holds

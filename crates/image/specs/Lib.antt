@@ -3,3 +3,4 @@ pub mod WellFormed
 pub mod Image
 pub mod Claims
 pub mod Area
+pub mod Demand3OnBytes

@@ -83,12 +83,12 @@ run-agrees (c ∷ cs) m l r = run-agrees-after m l c cs (refusal m (c .lent) (c 
 
 -- What is served -----------------------------------------------------------------------------------------
 
-serves-same : {m : Memory} {l : Option Ledger} → MemoryRelation m l → (s : Slot) → serves-value m s ≡ ledger-serves l s
+pub serves-same : {m : Memory} {l : Option Ledger} → MemoryRelation m l → (s : Slot) → serves-value m s ≡ ledger-serves l s
 serves-same no-store s = refl
 serves-same (both-open cfg both-empty) s = refl
 serves-same (both-open cfg (both-installed g m h)) s = resolved-same (cfg .retention) g m h s
 
-true-memory : (truth : Truth) {m : Memory} {l : Option Ledger} → MemoryRelation m l → TrueLedger truth l → TrueMemory truth m
+pub true-memory : (truth : Truth) {m : Memory} {l : Option Ledger} → MemoryRelation m l → TrueLedger truth l → TrueMemory truth m
 true-memory truth no-store t = tt
 true-memory truth (both-open cfg both-empty) t = tt
 true-memory truth (both-open cfg (both-installed g m h)) t = λ s v e. t s v (sym (resolved-same (cfg .retention) g m h s) ∙ e)

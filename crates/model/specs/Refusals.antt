@@ -17,12 +17,12 @@ pub record Lent : Type 0 where
   pub work-bytes : ℕ
   pub output-entries : ℕ
 
--- The bytes that a store of a capacity needs (docs/LAYOUT.md), and an advance's work area.
+-- The bytes that a store of a capacity needs (docs/LAYOUT.md). An advance's work area needs as many: it holds the store that is to be.
 abbrev pub store-size : ℕ → ℕ
 store-size capacity = 6848 + 104 * capacity
 
 abbrev pub work-size : ℕ → ℕ
-work-size capacity = 128 * capacity
+work-size capacity = store-size capacity
 
 -- The installed generation, where the bytes are a store.
 abbrev pub installed-in : Memory → Option Generation

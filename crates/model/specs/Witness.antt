@@ -57,7 +57,7 @@ fork-writes = record { slot = W; value = word 12 } ∷ record { slot = P; value 
 -- The run --------------------------------------------------------------------------------------------
 
 abbrev pub lent-call : Call → LentCall
-lent-call c = record { call = c; lent = record { store-bytes = 8512; work-bytes = 2048; output-entries = 2 } }
+lent-call c = record { call = c; lent = record { store-bytes = 8512; work-bytes = 8512; output-entries = 2 } }
 
 -- An advance to a canonical block, under a parent hash, and a call at a canonical block.
 abbrev pub next : ℕ → ℕ → Call
