@@ -8,7 +8,7 @@ pub mod generate;
 pub mod listing;
 pub mod missing;
 pub mod record;
-pub mod session;
+pub mod driver;
 pub mod sweep;
 pub mod tally;
 

@@ -2,7 +2,7 @@
 //! detail lines that it leaves out.
 
 use crate::calls::{Call, Reader};
-use crate::session::{advance_line, Answer, Refusal, Session};
+use crate::driver::{advance_line, Answer, Refusal, Driver};
 use crate::sim::evm2::delta_snapshot::Slot;
 use alloy::primitives::StorageValue;
 use std::fmt::Write as _;
@@ -14,14 +14,14 @@ pub struct Step {
     pub answer: Result<Answer, Refusal>,
 }
 
-/// Run a list; `each` sees every step and the session after it.
-pub fn run(list: &[u8], mut each: impl FnMut(&Step, &Session)) {
-    let mut session = Session::default();
+/// Run a list; `each` sees every step and the driver after it.
+pub fn run(list: &[u8], mut each: impl FnMut(&Step, &Driver)) {
+    let mut driver = Driver::default();
     let mut reader = Reader::new(list);
     while let Some(parsed) = reader.next_call() {
         let step = match parsed {
             Ok(call) => Step {
-                answer: session.run(&call),
+                answer: driver.run(&call),
                 call: Some(call),
             },
             Err(refusal) => Step {
@@ -29,7 +29,7 @@ pub fn run(list: &[u8], mut each: impl FnMut(&Step, &Session)) {
                 answer: Err(refusal),
             },
         };
-        each(&step, &session);
+        each(&step, &driver);
         if step.call.is_none() {
             return;
         }
@@ -46,10 +46,10 @@ pub fn listing(list: &[u8]) -> String {
 /// The listing with the detail lines.
 pub fn detail(list: &[u8]) -> String {
     let mut text = String::new();
-    run(list, |step, session| {
+    run(list, |step, driver| {
         push_lines(&mut text, &step.answer);
         if let Ok(answer) = &step.answer {
-            push_detail(&mut text, answer, session);
+            push_detail(&mut text, answer, driver);
         }
     });
     text
@@ -87,14 +87,14 @@ pub fn push_lines(text: &mut String, answer: &Result<Answer, Refusal>) {
     }
 }
 
-fn push_detail(text: &mut String, answer: &Answer, session: &Session) {
+fn push_detail(text: &mut String, answer: &Answer, driver: &Driver) {
     if let Answer::Advanced(report) = answer {
         line(text, &format!("applied {}", report.writes.len()));
         for slot in &report.writes {
             line(text, &format!("  slot {}", slot_hex(slot)));
         }
     }
-    if let Some(stats) = session.stats() {
+    if let Some(stats) = driver.stats() {
         line(
             text,
             &format!(

@@ -3,7 +3,7 @@
 
 use crate::calls::{write_list, Advance, Call, Round, Shape};
 use crate::cases::word;
-use crate::session::Session;
+use crate::driver::Driver;
 use crate::sim::evm2::delta_snapshot::{Retention, Slot};
 use crate::sim::evm2::read_hub::oracle_access as reads;
 use crate::sim::storage_memo::ReadAnchor;
@@ -84,18 +84,18 @@ pub fn sequences(length: usize) -> usize {
 pub fn sequence(length: usize, number: usize) -> Vec<u8> {
     let (capacity, depth, retention) = STORES[number % STORES.len()];
     let mut rest = number / STORES.len();
-    let mut session = Session::default();
+    let mut driver = Driver::default();
     let mut calls = Vec::new();
-    let mut make = |session: &mut Session, call: Call| {
-        let _ = session.run(&call);
+    let mut make = |driver: &mut Driver, call: Call| {
+        let _ = driver.run(&call);
         calls.push(call);
     };
     let shape = Some(Shape { depth, retention });
-    make(&mut session, Call::Open { capacity, shape });
-    make(&mut session, Call::Install(anchor(10)));
+    make(&mut driver, Call::Open { capacity, shape });
+    make(&mut driver, Call::Install(anchor(10)));
     for _ in 0..length {
-        let call = resolve(PICKS[rest % PICKS.len()], &session);
-        make(&mut session, call);
+        let call = resolve(PICKS[rest % PICKS.len()], &driver);
+        make(&mut driver, call);
         rest /= PICKS.len();
     }
     write_list(&calls)
@@ -105,10 +105,10 @@ fn anchor(number: u64) -> ReadAnchor {
     ReadAnchor::identified(number, B256([number as u8; 32]))
 }
 
-fn resolve(pick: Pick, session: &Session) -> Call {
+fn resolve(pick: Pick, driver: &Driver) -> Call {
     let p: Slot = (Address([1; 20]), word(1));
     let q: Slot = (Address([2; 20]), word(1));
-    let generation = session.generation().expect("installed at the start");
+    let generation = driver.generation().expect("installed at the start");
     let at = generation.anchor();
     let advance = |values: &[(Slot, u8)], relevant: bool| Advance {
         child: anchor(at.number + 1),

@@ -3,7 +3,7 @@
 
 use crate::calls::{Call, Round};
 use crate::listing::{push_lines, run, Step};
-use crate::session::{lineage_number, skip_number, Answer};
+use crate::driver::{lineage_number, skip_number, Answer};
 use crate::sim::evm2::read_hub::CarryOutcome;
 use std::collections::{BTreeMap, BTreeSet};
 

@@ -3,7 +3,7 @@
 
 use oracle::calls::{Advance, Call, Round};
 use oracle::listing::{self, Step};
-use oracle::session::{lineage_number, skip_number, Answer};
+use oracle::driver::{lineage_number, skip_number, Answer};
 use oracle::sim::evm2::delta_snapshot::{Retention, Slot};
 use oracle::sim::evm2::read_hub::CarryOutcome;
 use oracle::sim::storage_memo::ReadAnchor;

@@ -11,8 +11,8 @@ use Rattle.model.specs.declared.storage_memo.ReadAnchor.{ReadAnchor}
 use Rattle.model.specs.declared.delta_snapshot.Slot.{Slot}
 use Rattle.model.specs.declared.delta_snapshot.Retention.{Retention}
 use Rattle.model.specs.declared.delta_snapshot.Retention.the-variants.{Unbounded, IdleBlocks}
-use Rattle.model.specs.Numbers.{num}
 use Rattle.model.specs.Slots.{at, identified}
+use Rattle.model.specs.Entries.{u256-at, address-of, slot-of, write-of}
 use Rattle.model.specs.Advance.{Write}
 use Rattle.model.specs.Reads.{Member}
 use Rattle.model.specs.Store.{AnchoredCall, look, get, put, read, take as take-call, answer, answer-failed, StoreCall, install, advance, at-anchor, Call, open-store, on-store}
@@ -59,19 +59,6 @@ parse-list f l = then (parse-number l) (λ n r. parse-entries f n r)
 
 -- Parts of calls --------------------------------------------------------------------------------------
 
--- The word of n bytes at a place.
-abbrev pub word : ℕ → ℕ → List ℕ → ℕ
-word i n b = num (take n (drop i b))
-
-abbrev pub u256-at : ℕ → List ℕ → U256
-u256-at i b = record { w0 = word i 8 b; w1 = word (i + 8) 8 b; w2 = word (i + 16) 8 b; w3 = word (i + 24) 8 b }
-
-abbrev pub address-of : List ℕ → Address
-address-of b = record { w0 = word 0 4 b; w1 = word 4 8 b; w2 = word 12 8 b }
-
-abbrev pub slot-of : List ℕ → Slot
-slot-of b = record { address = address-of b; index = u256-at 20 b }
-
 -- A 32-byte number; an address of 20 bytes; a slot of 52; a write, a slot and 32 bytes.
 abbrev pub parse-u256 : List ℕ → Parsed U256
 parse-u256 l = then (parse-bytes 32 l) (λ b r. parsed (u256-at 0 b) r)
@@ -83,7 +70,7 @@ abbrev pub parse-slot : List ℕ → Parsed Slot
 parse-slot l = then (parse-bytes 52 l) (λ b r. parsed (slot-of b) r)
 
 abbrev pub parse-write : List ℕ → Parsed Write
-parse-write l = then (parse-bytes 84 l) (λ b r. parsed (record { slot = slot-of b; value = u256-at 52 b }) r)
+parse-write l = then (parse-bytes 84 l) (λ b r. parsed (write-of b) r)
 
 -- A member of an answer: a slot, then 1 and its value, or 0.
 abbrev pub parse-outcome : Bool → List ℕ → Parsed (Option U256)

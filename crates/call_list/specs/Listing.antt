@@ -29,6 +29,7 @@ unfoldable pub decimal-from : ℕ → ℕ → List ℕ → List ℕ
 decimal-from zero n l = l
 decimal-from (suc k) n l = cond (ltb n 10) (digit n ∷ l) (decimal-from k (n / 10) (digit (n % 10) ∷ l))
 
+-- A number in decimals.
 abbrev pub decimal : ℕ → List ℕ
 decimal n = decimal-from 20 n []
 
@@ -37,9 +38,11 @@ unfoldable pub hex : ℕ → ℕ → List ℕ
 hex zero x = []
 hex (suc n) x = hex n (x / 16) ++ (digit (x % 16) ∷ [])
 
+-- A 32-byte number in 64 hex digits.
 abbrev pub u256-hex : U256 → List ℕ
 u256-hex x = hex 16 (x .w0) ++ (hex 16 (x .w1) ++ (hex 16 (x .w2) ++ hex 16 (x .w3)))
 
+-- A slot in 104 hex digits.
 abbrev pub slot-hex : Slot → List ℕ
 slot-hex s = hex 8 (s .address .w0) ++ (hex 16 (s .address .w1) ++ (hex 16 (s .address .w2) ++ u256-hex (s .index)))
 
@@ -48,10 +51,12 @@ unfoldable pub line : List ℕ → List (List ℕ) → List ℕ
 line w [] = w ++ (10 ∷ [])
 line w (f ∷ fs) = w ++ (32 ∷ line f fs)
 
+-- Numbers as fields.
 unfoldable pub decimals : List ℕ → List (List ℕ)
 decimals [] = []
 decimals (n ∷ ns) = decimal n ∷ decimals ns
 
+-- A line for each slot that a take lists.
 unfoldable pub slot-lines : List Slot → List ℕ
 slot-lines [] = []
 slot-lines (s ∷ ss) = line (ascii "slot") (slot-hex s ∷ []) ++ slot-lines ss
@@ -60,12 +65,14 @@ slot-lines (s ∷ ss) = line (ascii "slot") (slot-hex s ∷ []) ++ slot-lines ss
 abbrev pub write-counts : AppliedWrites → List ℕ → List ℕ
 write-counts w l = length (w .applied) ∷ w .overwritten ∷ w .skipped ∷ l
 
+-- An advance's line, by its outcome.
 abbrev pub delta-line : CarryOutcome → DeltaReport → List ℕ
 delta-line AlreadyCurrent d = line (ascii "current") (decimals (d .held ∷ d .live ∷ []))
 delta-line (Carried n) d =
     line (ascii "carried") (decimals (n ∷ write-counts (d .writes) (d .held ∷ d .live ∷ d .compaction .merged ∷ d .compaction .left ∷ d .compaction .dropped ∷ [])))
 delta-line (Cold l k) d = line (ascii "cold") (decimals (lineage-number l ∷ skip-number k ∷ write-counts (d .writes) (d .held ∷ d .live ∷ [])))
 
+-- The lines of an accepted call.
 abbrev pub report-lines : Report → List ℕ
 report-lines opened = line (ascii "open") []
 report-lines anchor-same = line (ascii "anchor same") []
@@ -78,9 +85,11 @@ report-lines (waiting n) = line (ascii "wait") (decimals (n ∷ []))
 report-lines (listed ss) = line (ascii "take") (decimals (length ss ∷ [])) ++ slot-lines ss
 report-lines (answered m e w) = line (ascii "answer") (decimals (m ∷ e ∷ w ∷ []))
 
+-- The line of a refusal.
 abbrev pub refusal-line : ℕ → List ℕ
 refusal-line n = line (ascii "no") (decimals (n ∷ []))
 
+-- The lines of one call, and of several.
 unfoldable pub answer-lines : Answer → List ℕ
 answer-lines (refuse n) = refusal-line n
 answer-lines (ok r) = report-lines r

@@ -1,11 +1,10 @@
 -- Records in bytes, apart from the rest of a store: what the functions over a part of the record area say.
-use Prim.Native.Nat.{ℕ, suc, _-_, _*_}
-use mathlib.Core.Bool.{Bool, cond}
+use Prim.Native.Nat.{ℕ, _-_, _*_, max}
 use mathlib.Core.List.{List, [], _∷_, _++_, map}
-use lib.ListN.{length, drop}
-use Rattle.model.specs.declared.delta_snapshot.Slot.{Slot}
+use lib.ListN.{length, drop, replicate}
 use Rattle.model.specs.Layers.{Layer}
-use Rattle.image.specs.Image.{bytes-of, words-of, all-record-words, read-record, entries}
+use Rattle.model.specs.Reads.{Pending}
+use Rattle.image.specs.Image.{bytes-of, words-of, all-record-words, all-pending-words, read-record, read-pending, entries}
 
 -- The n records that bytes begin with.
 unfoldable pub records-of : ℕ → List ℕ → Layer
@@ -18,3 +17,11 @@ with-records l s = bytes-of (all-record-words l) ++ drop (104 * length l) s
 -- The lowest k of some layers (the newest first): those of the numbers below k.
 abbrev pub layers-below : ℕ → List Layer → List Layer
 layers-below k b = drop (length b - k) b
+
+-- The n awaiting slots that bytes begin with.
+unfoldable pub pending-of : ℕ → List ℕ → List Pending
+pending-of n s = map read-pending (entries 9 n (words-of (9 * n) s))
+
+-- The bytes with the given awaiting slots at their beginning, where n stood: the bytes that they leave free are 0, and what follows is as it was.
+unfoldable pub with-pending : ℕ → List Pending → List ℕ → List ℕ
+with-pending n q s = bytes-of (all-pending-words q) ++ (replicate (72 * (n - length q)) 0 ++ drop (72 * max n (length q)) s)

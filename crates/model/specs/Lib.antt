@@ -4,6 +4,7 @@ pub mod Slots
 pub mod Layers
 pub mod Advance
 pub mod Reads
+pub mod Entries
 pub mod Store
 pub mod Refusals
 pub mod FlatLedger

@@ -17,6 +17,7 @@ unfoldable pub applied-slots : List Slot → List ℕ
 applied-slots [] = []
 applied-slots (s ∷ ss) = ascii "  slot " ++ (line (slot-hex s) [] ++ applied-slots ss)
 
+-- The applied writes of an advance.
 abbrev pub applied-lines : Report → List ℕ
 applied-lines opened = []
 applied-lines anchor-same = []
@@ -29,10 +30,12 @@ applied-lines (waiting n) = []
 applied-lines (listed ss) = []
 applied-lines (answered m e w) = []
 
+-- The totals of the installed generation that the Rust counts too.
 abbrev pub stats-line : Option Generation → List ℕ
 stats-line none = []
 stats-line (some g) = line (ascii "stats") (decimals (g .totals .coalesced ∷ g .totals .rounds ∷ g .totals .members ∷ g .totals .errors ∷ []))
 
+-- An accepted call's details.
 abbrev pub detail-lines : Answer → Memory → List ℕ
 detail-lines (refuse n) m = []
 detail-lines (ok r) m = applied-lines r ++ stats-line (installed-in m)

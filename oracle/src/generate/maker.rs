@@ -4,7 +4,7 @@
 use super::profile::{Move, Profile};
 use super::rng::Rng;
 use crate::calls::{write_list, Advance, Call, Round, Shape, Write};
-use crate::session::{Answer, Refusal, Session};
+use crate::driver::{Answer, Refusal, Driver};
 use crate::sim::evm2::delta_snapshot::oracle_access as layers;
 use crate::sim::evm2::delta_snapshot::{Retention, Slot};
 use crate::sim::evm2::read_hub::oracle_access as reads;
@@ -17,7 +17,7 @@ pub struct Maker<'a> {
     /// Where each call begins.
     pub starts: Vec<usize>,
     profile: &'a Profile,
-    session: Session,
+    driver: Driver,
     /// The idle number of the open store.
     idle: Option<u64>,
     /// Most bytes; a call that would pass them ends the list.
@@ -36,7 +36,7 @@ impl<'a> Maker<'a> {
             list: Vec::new(),
             starts: Vec::new(),
             profile,
-            session: Session::default(),
+            driver: Driver::default(),
             idle: None,
             budget,
             full: false,
@@ -96,7 +96,7 @@ impl<'a> Maker<'a> {
         }
         self.starts.push(self.list.len());
         self.list.extend(bytes);
-        let answer = self.session.run(&call);
+        let answer = self.driver.run(&call);
         if let (Call::Open { shape, .. }, Ok(_)) = (&call, &answer) {
             self.idle = match shape {
                 Some(Shape {
@@ -112,7 +112,7 @@ impl<'a> Maker<'a> {
     // ---- what is known of the store ----
 
     fn installed(&self) -> Option<ReadAnchor> {
-        Some(self.session.generation()?.anchor())
+        Some(self.driver.generation()?.anchor())
     }
 
     /// The installed anchor, or any where there is none.
@@ -124,14 +124,14 @@ impl<'a> Maker<'a> {
     }
 
     fn held(&self) -> Vec<Slot> {
-        self.session
+        self.driver
             .generation()
             .map_or_else(Vec::new, layers::held_slots)
     }
 
     /// The awaiting slots that are taken, or those that are not.
     fn awaiting(&self, taken: bool) -> Vec<Slot> {
-        let Some(generation) = self.session.generation() else {
+        let Some(generation) = self.driver.generation() else {
             return Vec::new();
         };
         let lane = generation.read_hub();
@@ -142,7 +142,7 @@ impl<'a> Maker<'a> {
 
     fn unserved(&self) -> Vec<Slot> {
         let mut slots = self.all_slots();
-        if let Some(generation) = self.session.generation() {
+        if let Some(generation) = self.driver.generation() {
             slots.retain(|slot| generation.snapshot_value(slot.0, slot.1).is_none());
         }
         slots

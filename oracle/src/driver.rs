@@ -46,11 +46,11 @@ pub enum Answer {
 
 /// The lent store: nothing before the first accepted open.
 #[derive(Default)]
-pub struct Session {
+pub struct Driver {
     store: Option<Store>,
 }
 
-impl Session {
+impl Driver {
     pub fn run(&mut self, call: &Call) -> Result<Answer, Refusal> {
         if let Call::Open { capacity, shape } = call {
             self.store = Some(Store::open(*capacity, *shape)?);
