@@ -8,5 +8,7 @@ pub mod Words
 pub mod Entries
 pub mod Extent
 pub mod ReadBack
+pub mod Areas
+pub mod Lent
 pub mod OnBytes
 pub mod Demand3Holds

@@ -37,10 +37,10 @@ module _ (capacity : ℕ) (e a r : List ℕ) (h : Room capacity e a r) where
   take-ends : (n : ℕ) → length e ≡ n → take n (table-words capacity e a r) ≡ e
   take-ends n k = ap (take n) (append-assoc e _ _) ∙ take-at e _ n k
 
-  drop-ends : drop 256 (table-words capacity e a r) ≡ padded 576 a ++ padded (13 * capacity) r
+  pub drop-ends : drop 256 (table-words capacity e a r) ≡ padded 576 a ++ padded (13 * capacity) r
   drop-ends = drop-at (padded 256 e) _ 256 (length-padded 256 e (h .ends-room))
 
-  drop-awaiting : drop 832 (table-words capacity e a r) ≡ padded (13 * capacity) r
+  pub drop-awaiting : drop 832 (table-words capacity e a r) ≡ padded (13 * capacity) r
   drop-awaiting =
       sym (drop-drop 576 256 (table-words capacity e a r))
       ∙ ap (drop 576) drop-ends
@@ -125,7 +125,7 @@ decode-begins b st k h =
     ∙ ap (decided n b ws) (read-image-words st (h .right))
     ∙ ap (λ (t : Bool). cond t (some st) none) (and-intro _ _ (le-leb (8 * n) (length b) (h .long)) (and-intro _ _ (h .right) (words-eqb-refl ws)))
 
-decided-some : (t : Bool) (x st : Store) → cond t (some x) none ≡ some st → (t ≡ true) × (x ≡ st)
+pub decided-some : (t : Bool) (x st : Store) → cond t (some x) none ≡ some st → (t ≡ true) × (x ≡ st)
 decided-some true x st e = (refl, cc)
 decided-some false x st e = let z : _≡_ {A = ℕ} 0 1 = cc in absurd (omega arith)
 

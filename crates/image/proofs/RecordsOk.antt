@@ -44,7 +44,7 @@ rising-insert-from a s c (r ∷ l) h e =
     (λ z. rw (z, h, z, q))
     (λ z. rw (z, p) (rising-insert-from (r .slot) s c l (slot-ltb-total (r .slot) s y z) q))))
 
-rising-insert : (s : Slot) (c : Content) (l : Layer) → rising l ≡ true → rising (insert s c l) ≡ true
+pub rising-insert : (s : Slot) (c : Content) (l : Layer) → rising l ≡ true → rising (insert s c l) ≡ true
 unfolding rising-from insert
 rising-insert s c [] e = refl
 rising-insert s c (r ∷ l) q =

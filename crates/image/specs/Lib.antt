@@ -4,3 +4,5 @@ pub mod Image
 pub mod Claims
 pub mod Area
 pub mod Demand3OnBytes
+pub mod Output
+pub mod Lent

@@ -1,0 +1,2 @@
+-- What the answers of a search mean.
+pub mod Answers

@@ -1,0 +1,233 @@
+// The layers of a store's generation: its header, and a slot's last use and value searched from a layer down.
+use model::delta_snapshot::Retention;
+use model::delta_snapshot::Slot;
+use model::storage_memo::U256;
+use records::Found;
+ghost use mathlib.Core.Path.{_≡_};
+ghost use mathlib.Core.Bool.{true};
+ghost use Prim.Native.Nat.{_+_, _*_, _≤_, _<_};
+ghost use lib.ListN.{length};
+ghost use Rattle.model.specs.Layers.{is-some, max-option, find, last-use-of, value-of, held-value, freshest-use, record-count};
+ghost use Rattle.model.specs.Store.{chain, resolved};
+ghost use Rattle.image.specs.WellFormed.{rising};
+ghost use Rattle.image.specs.Area.{records-of, layers-below};
+ghost use Rattle.image.specs.Lent.{store-of, generation-of, IsStore, Installed, layer-of};
+ghost use Rattle.layers.specs.Answers.{use-option, held-option, entry-content};
+
+// The last use of a slot, if it has one.
+pub enum Use {
+    None,
+    At(u64),
+}
+
+// The value of a slot, if it has one.
+pub enum Held {
+    Nothing,
+    Value(U256),
+}
+
+// The record of a slot in a layer, if it has one: its last use alone, or with its value.
+pub enum Entry {
+    Absent,
+    Used(u64),
+    Valued(u64, U256),
+}
+
+// The store's retention.
+pub fn retention(s: &[u8]) -> Retention
+    requires { ⌜ IsStore (now s) ⌝ }
+    ensures { λ r. ⌜ r ≡ store-of (now (s .entry)) .config .retention ⌝ }
+{
+    if words::read_u64(s, 24) == 0 {
+        return Retention::Unbounded;
+    }
+    Retention::IdleBlocks(words::read_u64(s, 32))
+}
+
+// Whether a generation is installed.
+pub fn is_installed(s: &[u8]) -> bool
+    requires { ⌜ IsStore (now s) ⌝ }
+    ensures { λ r. ⌜ r ≡ is-some (store-of (now (s .entry)) .installed) ⌝ }
+{
+    words::read_u64(s, 40) != 0
+}
+
+// The number of the installed anchor.
+pub fn installed_number(s: &[u8]) -> u64
+    requires { ⌜ Installed (now s) ⌝ }
+    ensures { λ r. ⌜ r ≡ generation-of (now (s .entry)) .anchor .number ⌝ }
+{
+    words::read_u64(s, 48)
+}
+
+// How many layers the base has.
+pub fn layers(s: &[u8]) -> usize
+    requires { ⌜ Installed (now s) ⌝ }
+    ensures { λ r. ⌜ r ≡ length (generation-of (now (s .entry)) .base) ⌝ }
+{
+    words::read_u64(s, 96) as usize + 1
+}
+
+// How many records stand below layer k.
+pub fn layer_start(s: &[u8], k: usize) -> usize
+    requires { ⌜ Installed (now s) × (k ≤ length (generation-of (now s) .base)) ⌝ }
+    ensures { λ r. ⌜ r ≡ record-count (layers-below k (generation-of (now (s .entry)) .base)) ⌝ }
+{
+    if k == 0 {
+        return 0;
+    }
+    words::read_u64(s, 184 + 8 * k) as usize
+}
+
+// How many records stand below the top.
+pub fn top_start(s: &[u8]) -> usize
+    requires { ⌜ Installed (now s) ⌝ }
+    ensures { λ r. ⌜ r ≡ record-count (generation-of (now (s .entry)) .base) ⌝ }
+{
+    layer_start(s, layers(s))
+}
+
+// How many records the top has.
+pub fn top_count(s: &[u8]) -> usize
+    requires { ⌜ Installed (now s) ⌝ }
+    ensures { λ r. ⌜ r ≡ length (generation-of (now (s .entry)) .top) ⌝ }
+{
+    words::read_u64(s, 104) as usize - top_start(s)
+}
+
+// The later of two uses.
+fn later(a: Use, b: Use) -> Use
+    ensures { λ r. ⌜ use-option r ≡ max-option (use-option a) (use-option b) ⌝ }
+{
+    let Use::At(x) = a else {
+        return b;
+    };
+    let Use::At(y) = b else {
+        return a;
+    };
+    if x < y { b } else { a }
+}
+
+// The record of a slot among the n records that s begins with.
+fn entry_in(s: &[u8], n: usize, slot: Slot) -> Entry
+    requires { ⌜ (n * 104 ≤ length (now s)) × (rising (records-of n (now s)) ≡ true) ⌝ }
+    ensures { λ r. ⌜ entry-content r ≡ find slot (records-of n (now (s .entry))) ⌝ }
+{
+    let f = records::find(s, n, slot);
+    let Found::At(i) = f else {
+        return Entry::Absent;
+    };
+    let u = records::last_use(s, i);
+    if records::has_value(s, i) {
+        return Entry::Valued(u, records::value(s, i));
+    }
+    Entry::Used(u)
+}
+
+// The record of a slot in layer k.
+fn layer_entry(s: &[u8], k: usize, slot: Slot) -> Entry
+    requires { ⌜ Installed (now s) × (k < length (generation-of (now s) .base)) ⌝ }
+    ensures { λ r. ⌜ entry-content r ≡ find slot (layer-of k (generation-of (now (s .entry)) .base)) ⌝ }
+{
+    let start = layer_start(s, k);
+    let n = layer_start(s, k + 1) - start;
+    let at = image::HEADER_BYTES + image::RECORD_BYTES * start;
+    entry_in(&s[at..], n, slot)
+}
+
+// The record of a slot in the top.
+fn top_entry(s: &[u8], slot: Slot) -> Entry
+    requires { ⌜ Installed (now s) ⌝ }
+    ensures { λ r. ⌜ entry-content r ≡ find slot (generation-of (now (s .entry)) .top) ⌝ }
+{
+    let n = top_count(s);
+    let at = image::HEADER_BYTES + image::RECORD_BYTES * top_start(s);
+    entry_in(&s[at..], n, slot)
+}
+
+// The last use of a record.
+fn use_of(e: Entry) -> Use
+    ensures { λ r. ⌜ use-option r ≡ last-use-of (entry-content e) ⌝ }
+{
+    match e {
+        Entry::Absent => Use::None,
+        Entry::Used(u) => Use::At(u),
+        Entry::Valued(u, _) => Use::At(u),
+    }
+}
+
+// The value of a record.
+fn value_of(e: Entry) -> Held
+    ensures { λ r. ⌜ held-option r ≡ value-of (entry-content e) ⌝ }
+{
+    match e {
+        Entry::Absent => Held::Nothing,
+        Entry::Used(_) => Held::Nothing,
+        Entry::Valued(_, v) => Held::Value(v),
+    }
+}
+
+// The largest last use of a slot in the layers below k: in layer k - 1, or from there down.
+pub fn freshest_use(s: &[u8], k: usize, slot: Slot) -> Use
+    requires { ⌜ Installed (now s) × (k ≤ length (generation-of (now s) .base)) ⌝ }
+    ensures { λ r. ⌜ use-option r ≡ freshest-use slot (layers-below k (generation-of (now (s .entry)) .base)) ⌝ }
+{
+    if k == 0 {
+        return Use::None;
+    }
+    let own = use_of(layer_entry(s, k - 1, slot));
+    let below = freshest_use(s, k - 1, slot);
+    later(own, below)
+}
+
+// The value of a slot in the highest of the layers below k that has one: in layer k - 1, or from there down.
+pub fn held_value(s: &[u8], k: usize, slot: Slot) -> Held
+    requires { ⌜ Installed (now s) × (k ≤ length (generation-of (now s) .base)) ⌝ }
+    ensures { λ r. ⌜ held-option r ≡ held-value slot (layers-below k (generation-of (now (s .entry)) .base)) ⌝ }
+{
+    if k == 0 {
+        return Held::Nothing;
+    }
+    let own = value_of(layer_entry(s, k - 1, slot));
+    let Held::Nothing = own else {
+        return own;
+    };
+    held_value(s, k - 1, slot)
+}
+
+// The freshest use of a slot in the top and the base.
+pub fn chain_use(s: &[u8], slot: Slot) -> Use
+    requires { ⌜ Installed (now s) ⌝ }
+    ensures { λ r. ⌜ use-option r ≡ freshest-use slot (chain (generation-of (now (s .entry)))) ⌝ }
+{
+    let own = use_of(top_entry(s, slot));
+    let below = freshest_use(s, layers(s), slot);
+    later(own, below)
+}
+
+// The held value of a slot in the top and the base.
+pub fn chain_value(s: &[u8], slot: Slot) -> Held
+    requires { ⌜ Installed (now s) ⌝ }
+    ensures { λ r. ⌜ held-option r ≡ held-value slot (chain (generation-of (now (s .entry)))) ⌝ }
+{
+    let own = value_of(top_entry(s, slot));
+    let Held::Nothing = own else {
+        return own;
+    };
+    held_value(s, layers(s), slot)
+}
+
+// What a look of a slot answers: its value, if its freshest use serves.
+pub fn resolved(s: &[u8], slot: Slot) -> Held
+    requires { ⌜ Installed (now s) ⌝ }
+    ensures { λ r. ⌜ held-option r ≡ resolved (store-of (now (s .entry)) .config .retention) (generation-of (now (s .entry))) slot ⌝ }
+{
+    let used = chain_use(s, slot);
+    let Use::At(u) = used else {
+        return Held::Nothing;
+    };
+    if retention(s).serves(u, installed_number(s)) {
+        return chain_value(s, slot);
+    }
+    Held::Nothing
+}

@@ -1,0 +1,2 @@
+-- The index that the contracts of `order` cite.
+pub mod Index

@@ -1,0 +1,80 @@
+-- Words written one after the other are their bytes placed.
+use Prim.Native.Nat.{ℕ, _+_, _-_, _*_, _≤_}
+use mathlib.Core.Path.{_≡_, refl, sym, ap, ap₂, _∙_}
+use mathlib.Core.List.{List, [], _∷_, _++_, append-assoc, append-nil}
+use native.Mathlib.Omega.{arith}
+use lib.ListN.{length, take, drop, length-append, length-take, length-drop}
+use lib.Seq.{take-at, drop-at, drop-drop, length-take-le}
+use Rattle.model.specs.Numbers.{be}
+use Rattle.model.proofs.NumberLaws.{length-be}
+use Rattle.words.specs.Parts.{part, placed, moved}
+use Rattle.words.proofs.Moves.{gap-filled}
+use Rattle.image.specs.Image.{bytes-of}
+use Rattle.image.proofs.Words.{length-bytes-of}
+
+pub bytes-append : (xs ys : List ℕ) → bytes-of (xs ++ ys) ≡ bytes-of xs ++ bytes-of ys
+unfolding bytes-of
+bytes-append [] ys = refl
+bytes-append (x ∷ xs) ys = ap (λ (l : List ℕ). be 8 x ++ l) (bytes-append xs ys) ∙ sym (append-assoc (be 8 x) (bytes-of xs) (bytes-of ys))
+
+-- Bytes placed right after others.
+pub placed-after : (at b : ℕ) (v r s : List ℕ) → b ≡ at + length v → b + length r ≤ length s → placed b r (placed at v s) ≡ placed at (v ++ r) s
+placed-after at b v r s e h =
+    let a = take at s in
+    let d = drop (at + length v) s in
+    let n : length a ≡ at = length-take-le at s (omega arith) in
+    let m : length (a ++ v) ≡ b = length-append a v ∙ omega arith in
+    let t : take b (a ++ v ++ d) ≡ a ++ v = take-at (a ++ v) d b m in
+    let i : length (a ++ v) + length r ≡ b + length r = omega arith in
+    let q : length (v ++ r) ≡ length v + length r = length-append v r in
+    let j : at + length v + length r ≡ at + length (v ++ r) = omega arith in
+    let u : drop (b + length r) (a ++ v ++ d) ≡ drop (at + length (v ++ r)) s =
+    sym (drop-drop (length r) b (a ++ v ++ d)) ∙ ap (drop (length r)) (drop-at (a ++ v) d b m) ∙ drop-drop (length r) (at + length v) s ∙ ap (λ (k : ℕ). drop k s) j in
+    ap₂ (λ (x y : List ℕ). x ++ r ++ y) t u ∙ ap (λ (x : List ℕ). x ++ drop (at + length (v ++ r)) s) (append-assoc a v r)
+
+-- One word, and one word more.
+one-word : (at w : ℕ) (s : List ℕ) {t : List ℕ} → t ≡ placed at (be 8 w) s → t ≡ placed at (bytes-of (w ∷ [])) s
+unfolding bytes-of
+one-word at w s e = rw append-nil e
+
+word-more : (at k w : ℕ) (ws s : List ℕ) {t u : List ℕ} → k ≡ 8 * length ws → at + k + 8 ≤ length s → t ≡ placed at (bytes-of ws) s → u ≡ placed (at + k) (be 8 w) t
+    → u ≡ placed at (bytes-of (ws ++ (w ∷ []))) s
+unfolding bytes-of
+word-more at k w ws s g h e f =
+    let n : at + k ≡ at + length (bytes-of ws) = omega (arith, length-bytes-of ws) in
+    let m : at + k + length (be 8 w) ≤ length s = omega (arith, length-be 8 w) in
+    f ∙ ap (placed (at + k) (be 8 w)) e ∙ placed-after at (at + k) (bytes-of ws) (be 8 w) s n m
+    ∙ ap (λ (x : List ℕ). placed at x s) (ap (λ (x : List ℕ). bytes-of ws ++ x) (sym (append-nil (be 8 w))) ∙ sym (bytes-append ws (w ∷ [])))
+
+-- Six words, and seven, each written after the one before.
+module _ (at w0 w1 w2 w3 w4 w5 : ℕ) (s : List ℕ) {t0 t1 t2 t3 t4 t5 : List ℕ}
+    (e0 : t0 ≡ placed at (be 8 w0) s) (e1 : t1 ≡ placed (at + 8) (be 8 w1) t0) (e2 : t2 ≡ placed (at + 16) (be 8 w2) t1)
+    (e3 : t3 ≡ placed (at + 24) (be 8 w3) t2) (e4 : t4 ≡ placed (at + 32) (be 8 w4) t3) (e5 : t5 ≡ placed (at + 40) (be 8 w5) t4) where
+  pub six-words : at + 48 ≤ length s → t5 ≡ placed at (bytes-of (w0 ∷ w1 ∷ w2 ∷ w3 ∷ w4 ∷ w5 ∷ [])) s
+  six-words h =
+      let p0 = one-word at w0 s e0 in
+      let p1 = word-more at 8 w1 (w0 ∷ []) s refl (omega arith) p0 e1 in
+      let p2 = word-more at 16 w2 (w0 ∷ w1 ∷ []) s refl (omega arith) p1 e2 in
+      let p3 = word-more at 24 w3 (w0 ∷ w1 ∷ w2 ∷ []) s refl (omega arith) p2 e3 in
+      let p4 = word-more at 32 w4 (w0 ∷ w1 ∷ w2 ∷ w3 ∷ []) s refl (omega arith) p3 e4 in
+      word-more at 40 w5 (w0 ∷ w1 ∷ w2 ∷ w3 ∷ w4 ∷ []) s refl (omega arith) p4 e5
+
+  pub seven-words : (w6 : ℕ) {t6 : List ℕ} → t6 ≡ placed (at + 48) (be 8 w6) t5 → at + 56 ≤ length s → t6 ≡ placed at (bytes-of (w0 ∷ w1 ∷ w2 ∷ w3 ∷ w4 ∷ w5 ∷ w6 ∷ [])) s
+  seven-words w6 e6 h = word-more at 48 w6 (w0 ∷ w1 ∷ w2 ∷ w3 ∷ w4 ∷ w5 ∷ []) s refl (omega arith) (six-words (omega arith)) e6
+
+-- A run moved up by a record's bytes, and a record's words in the gap.
+length-moved : (at len by : ℕ) (s : List ℕ) → at + by + len ≤ length s → length (moved at len by s) ≡ length s
+length-moved at len by s h = simp (length-append, length-take, length-drop) (omega arith)
+
+pub record-put : (at len : ℕ) (xs ys s : List ℕ) {t0 t1 t2 : List ℕ} → length xs ≡ 7 → length ys ≡ 6 → at + 104 + len ≤ length s
+    → t0 ≡ moved at len 104 s → t1 ≡ placed at (bytes-of xs) t0 → t2 ≡ placed (at + 56) (bytes-of ys) t1
+    → t2 ≡ take at s ++ bytes-of (xs ++ ys) ++ part at len s ++ drop (at + 104 + len) s
+record-put at len xs ys s m n h e f g =
+    let x = bytes-of xs in
+    let y = bytes-of ys in
+    let z = moved at len 104 s in
+    let i : at + 56 ≡ at + length x = omega (arith, length-bytes-of xs) in
+    let j : at + 56 + length y ≤ length z = omega (arith, length-bytes-of ys, length-moved at len 104 s h) in
+    let k : length (bytes-of (xs ++ ys)) ≡ 104 = length-bytes-of (xs ++ ys) ∙ omega (arith, length-append xs ys) in
+    g ∙ ap (placed (at + 56) y) (f ∙ ap (placed at x) e) ∙ placed-after at (at + 56) x y z i j
+    ∙ ap (λ (v : List ℕ). placed at v z) (sym (bytes-append xs ys)) ∙ gap-filled at len 104 (bytes-of (xs ++ ys)) s k h

@@ -1,0 +1,2 @@
+-- The order of slots, the place of a slot among records, and the words of a record.
+pub mod Records

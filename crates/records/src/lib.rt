@@ -1,0 +1,231 @@
+// Records of 104 bytes in a slice: a slot, its last use, and its value or none. They rise by slot.
+use model::delta_snapshot::Slot;
+use model::storage_memo::Address;
+use model::storage_memo::U256;
+ghost use mathlib.Core.Path.{_≡_};
+ghost use mathlib.Core.Bool.{true, not, cond};
+ghost use Prim.Native.Nat.{_+_, _-_, _*_, _≤_, _<_, _^_};
+ghost use mathlib.Core.List.{_∷_, _++_};
+ghost use lib.Dec.{eqb, ltb};
+ghost use lib.ListN.{length, take, drop, getD};
+ghost use Rattle.model.specs.Numbers.{num};
+ghost use Rattle.model.specs.Slots.{slot-words, u256-words};
+ghost use Rattle.model.specs.Layers as layers;
+ghost use Rattle.words.specs.Parts.{part, placed};
+ghost use Rattle.image.specs.Image.{words-of, bytes-of, read-u256, read-slot};
+ghost use Rattle.image.specs.WellFormed.{rising};
+ghost use Rattle.image.specs.Area.{records-of};
+ghost use Rattle.records.specs.Records.{slot-order, place-in, words-at, Ready, Holds};
+
+// How a slot stands to another.
+pub enum Order {
+    Less,
+    Equal,
+    Greater,
+}
+
+// The place of a slot's record, or where it would go.
+pub enum Found {
+    At(usize),
+    Absent(usize),
+}
+
+// The slot in the seven words at `at`.
+pub fn slot_at(s: &[u8], at: usize) -> Slot
+    requires { ⌜ (at + 56 ≤ length (now s)) × (num (part at 8 (now s)) < 2 ^ 32) ⌝ }
+    ensures { λ r. ⌜ r ≡ read-slot (words-of 7 (drop at (now (s .entry)))) ⌝ }
+{
+    Slot {
+        address: Address {
+            w0: words::read_u64(s, at) as u32,
+            w1: words::read_u64(s, at + 8),
+            w2: words::read_u64(s, at + 16),
+        },
+        index: U256 {
+            w0: words::read_u64(s, at + 24),
+            w1: words::read_u64(s, at + 32),
+            w2: words::read_u64(s, at + 40),
+            w3: words::read_u64(s, at + 48),
+        },
+    }
+}
+
+fn wide(x: u32) -> u64
+    ensures { λ r. ⌜ r ≡ x ⌝ }
+{
+    x as u64
+}
+
+// The order of two words that differ.
+fn unequal(a: u64, b: u64) -> Order
+    ensures { λ r. ⌜ r ≡ cond (ltb a b) Order.Less Order.Greater ⌝ }
+{
+    if a < b { Order::Less } else { Order::Greater }
+}
+
+// How the slot in the seven words at `at` stands to `slot`: the first word that differs decides.
+// The last two words are read together, so that the compiler puts the last read in place too.
+pub fn compare(s: &[u8], at: usize, slot: Slot) -> Order
+    requires { ⌜ at + 56 ≤ length (now s) ⌝ }
+    ensures { λ r. ⌜ r ≡ slot-order (read-slot (words-of 7 (drop at (now (s .entry))))) slot ⌝ }
+{
+    let a = words::read_u64(s, at);
+    let b = wide(slot.address.w0);
+    if a != b {
+        return unequal(a, b);
+    }
+    let a = words::read_u64(s, at + 8);
+    if a != slot.address.w1 {
+        return unequal(a, slot.address.w1);
+    }
+    let a = words::read_u64(s, at + 16);
+    if a != slot.address.w2 {
+        return unequal(a, slot.address.w2);
+    }
+    let a = words::read_u64(s, at + 24);
+    if a != slot.index.w0 {
+        return unequal(a, slot.index.w0);
+    }
+    let a = words::read_u64(s, at + 32);
+    if a != slot.index.w1 {
+        return unequal(a, slot.index.w1);
+    }
+    let a = words::read_u64(s, at + 40);
+    let b = words::read_u64(s, at + 48);
+    if a != slot.index.w2 {
+        return unequal(a, slot.index.w2);
+    }
+    if b != slot.index.w3 {
+        return unequal(b, slot.index.w3);
+    }
+    Order::Equal
+}
+
+// The last use of record i.
+pub fn last_use(s: &[u8], i: usize) -> u64
+    requires { ⌜ (i + 1) * 104 ≤ length (now s) ⌝ }
+    ensures { λ r. ⌜ r ≡ getD (words-at i (now (s .entry))) 7 0 ⌝ }
+{
+    words::read_u64(s, i * 104 + 56)
+}
+
+// Whether record i has a value.
+pub fn has_value(s: &[u8], i: usize) -> bool
+    requires { ⌜ (i + 1) * 104 ≤ length (now s) ⌝ }
+    ensures { λ r. ⌜ r ≡ not (eqb (getD (words-at i (now (s .entry))) 8 0) 0) ⌝ }
+{
+    words::read_u64(s, i * 104 + 64) != 0
+}
+
+// The value of record i.
+pub fn value(s: &[u8], i: usize) -> U256
+    requires { ⌜ (i + 1) * 104 ≤ length (now s) ⌝ }
+    ensures { λ r. ⌜ r ≡ read-u256 (drop 9 (words-at i (now (s .entry)))) ⌝ }
+{
+    let at = i * 104 + 72;
+    U256 {
+        w0: words::read_u64(s, at),
+        w1: words::read_u64(s, at + 8),
+        w2: words::read_u64(s, at + 16),
+        w3: words::read_u64(s, at + 24),
+    }
+}
+
+// Writes a slot's seven words at `at`.
+fn write_slot(s: &mut [u8], at: usize, slot: Slot)
+    requires { ⌜ at + 56 ≤ length (now s) ⌝ }
+    ensures { λ _. ⌜ now (s .exit) ≡ placed at (bytes-of (slot-words slot)) (now (s .entry)) ⌝ }
+{
+    words::write_u64(s, at, wide(slot.address.w0));
+    words::write_u64(s, at + 8, slot.address.w1);
+    words::write_u64(s, at + 16, slot.address.w2);
+    words::write_u64(s, at + 24, slot.index.w0);
+    words::write_u64(s, at + 32, slot.index.w1);
+    words::write_u64(s, at + 40, slot.index.w2);
+    words::write_u64(s, at + 48, slot.index.w3);
+}
+
+// Writes a last use, a flag and a value at `at`.
+fn write_content(s: &mut [u8], at: usize, used: u64, flag: u64, value: U256)
+    requires { ⌜ at + 48 ≤ length (now s) ⌝ }
+    ensures { λ _. ⌜ now (s .exit) ≡ placed at (bytes-of (used ∷ flag ∷ u256-words value)) (now (s .entry)) ⌝ }
+{
+    words::write_u64(s, at, used);
+    words::write_u64(s, at + 8, flag);
+    words::write_u64(s, at + 16, value.w0);
+    words::write_u64(s, at + 24, value.w1);
+    words::write_u64(s, at + 32, value.w2);
+    words::write_u64(s, at + 40, value.w3);
+}
+
+// The place of a slot among the n records that s begins with, by halves.
+pub fn find(s: &[u8], n: usize, slot: Slot) -> Found
+    requires { ⌜ (n * 104 ≤ length (now s)) × (rising (records-of n (now s)) ≡ true) ⌝ }
+    ensures { λ r. ⌜ r ≡ place-in slot (records-of n (now (s .entry))) ⌝ }
+{
+    let mut lo = 0;
+    let mut hi = n;
+    while lo < hi {
+        let mid = lo + (hi - lo) / 2;
+        match compare(s, mid * 104, slot) {
+            Order::Less => {
+                lo = mid + 1;
+            }
+            Order::Equal => return Found::At(mid),
+            Order::Greater => {
+                hi = mid;
+            }
+        }
+    }
+    Found::Absent(lo)
+}
+
+// Puts a record before record i of the n that s begins with.
+fn insert_at(s: &mut [u8], n: usize, i: usize, slot: Slot, used: u64, flag: u64, value: U256)
+    requires { ⌜ (i ≤ n) × ((n + 1) * 104 ≤ length (now s)) ⌝ }
+    ensures { λ _. ⌜ now (s .exit) ≡ take (i * 104) (now (s .entry)) ++ bytes-of (slot-words slot ++ (used ∷ flag ∷ u256-words value)) ++ part (i * 104) ((n - i) * 104) (now (s .entry)) ++ drop ((n + 1) * 104) (now (s .entry)) ⌝ }
+{
+    words::move_up(s, i * 104, (n - i) * 104, 104);
+    write_slot(s, i * 104, slot);
+    write_content(s, i * 104 + 56, used, flag, value);
+}
+
+// Sets a slot's record, which stands or goes at `place`, to a last use and a value; the number of records then.
+pub fn settle(s: &mut [u8], n: usize, place: Found, slot: Slot, value: U256, used: u64) -> usize
+    requires { ⌜ Ready place slot n (now s) ⌝ }
+    ensures { λ r. ⌜ Holds r (now (s .exit)) (layers.settle used slot value (records-of n (now (s .entry)))) (now (s .entry)) ⌝ }
+{
+    match place {
+        Found::At(i) => {
+            write_content(s, i * 104 + 56, used, 1, value);
+            n
+        }
+        Found::Absent(i) => {
+            insert_at(s, n, i, slot, used, 1, value);
+            n + 1
+        }
+    }
+}
+
+// Sets the last use of a slot's record, which stands or goes at `place`; its value stays. The number of records then.
+pub fn touch(s: &mut [u8], n: usize, place: Found, slot: Slot, used: u64) -> usize
+    requires { ⌜ Ready place slot n (now s) ⌝ }
+    ensures { λ r. ⌜ Holds r (now (s .exit)) (layers.insert slot (layers.touch used (layers.find slot (records-of n (now (s .entry))))) (records-of n (now (s .entry)))) (now (s .entry)) ⌝ }
+{
+    match place {
+        Found::At(i) => {
+            words::write_u64(s, i * 104 + 56, used);
+            n
+        }
+        Found::Absent(i) => {
+            let zero = U256 {
+                w0: 0,
+                w1: 0,
+                w2: 0,
+                w3: 0,
+            };
+            insert_at(s, n, i, slot, used, 0, zero);
+            n + 1
+        }
+    }
+}

@@ -1,0 +1,8 @@
+-- The laws behind the contracts of `rules`, and what the rules mean for layers.
+pub mod PartLaws
+pub mod FieldLaws
+pub mod CountLaws
+pub mod WalkLaws
+pub mod GroupLaws
+pub mod RuleLaws
+pub mod LayerLaws
