@@ -1,2 +1,5 @@
--- Final writes: a block access list under a plan.
+-- Final writes: a block access list under a plan, and the bytes that it is lent in.
 pub mod FinalWrites
+pub mod Eip7928
+pub mod Lent
+pub mod Walking

@@ -132,7 +132,7 @@ pub fn value(s: &[u8], i: usize) -> U256
 }
 
 // Writes a slot's seven words at `at`.
-fn write_slot(s: &mut [u8], at: usize, slot: Slot)
+pub fn write_slot(s: &mut [u8], at: usize, slot: Slot)
     requires { ⌜ at + 56 ≤ length (now s) ⌝ }
     ensures { λ _. ⌜ now (s .exit) ≡ placed at (bytes-of (slot-words slot)) (now (s .entry)) ⌝ }
 {

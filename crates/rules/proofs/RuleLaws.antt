@@ -269,7 +269,7 @@ module _ (R : Retention) (now top : ℕ) (rs : Layer) (fit : (k : ℕ) → k < l
       absurd (true≢false (sym (all-ruled (length rs) 0 (omega arith) f) ∙ e)))
       (λ d. d ∙ sym e))
 
-fit-record : (k : ℕ) (s : List ℕ) → Bytes s → k * 104 + 104 ≤ length s → Fit (slot-words (read-record (words-of 13 (drop (k * 104) s)) .slot))
+pub fit-record : (k : ℕ) (s : List ℕ) → Bytes s → k * 104 + 104 ≤ length s → Fit (slot-words (read-record (words-of 13 (drop (k * 104) s)) .slot))
 unfolding slot-at
 fit-record k s b h = fit-slot-at k s b h
 

@@ -37,7 +37,7 @@ mem-above ss v w h [] a = refl
 mem-above ss v w h (x ∷ xs) (add p a) = rw (ne-eqb (getD ss x 0) v (λ e. omega arith)) (mem-above ss v w h xs a)
 
 -- After the last of its slot, a slot is met no more.
-last-above : (ss : List ℕ) (x : ℕ) (xs : List ℕ) → Rises ss (x ∷ xs) → last-of ss (x ∷ xs) ≡ true → All (λ y. suc (getD ss x 0) ≤ getD ss y 0) xs
+pub last-above : (ss : List ℕ) (x : ℕ) (xs : List ℕ) → Rises ss (x ∷ xs) → last-of ss (x ∷ xs) ≡ true → All (λ y. suc (getD ss x 0) ≤ getD ss y 0) xs
 unfolding last-of
 last-above ss x [] r e = nil
 last-above ss x (y ∷ ys) (rise (add p a) (rise b r)) e =
@@ -45,7 +45,7 @@ last-above ss x (y ∷ ys) (rise (add p a) (rise b r)) e =
     add l (all-more (λ k q. omega arith) b)
 
 -- Where it is not the last, the next has the same slot.
-next-equal : (ss : List ℕ) (x y : ℕ) (ys : List ℕ) → Rises ss (x ∷ y ∷ ys) → last-of ss (x ∷ y ∷ ys) ≡ false → getD ss x 0 ≡ getD ss y 0
+pub next-equal : (ss : List ℕ) (x y : ℕ) (ys : List ℕ) → Rises ss (x ∷ y ∷ ys) → last-of ss (x ∷ y ∷ ys) ≡ false → getD ss x 0 ≡ getD ss y 0
 unfolding last-of
 next-equal ss x y ys (rise (add p a) r) e =
     let l : getD ss y 0 ≤ getD ss x 0 = leb-true (getD ss y 0) (getD ss x 0) (not-false (leb (getD ss y 0) (getD ss x 0)) e) in
@@ -61,11 +61,11 @@ bit-add true c = omega arith
 bit-add false c = omega arith
 
 -- What a walk has gathered of slot v before xs
-abbrev begun : {A : Type 0} → A → A → List ℕ → List ℕ → ℕ → A
+abbrev pub begun : {A : Type 0} → A → A → List ℕ → List ℕ → ℕ → A
 begun z a ss [] v = z
 begun z a ss (x ∷ xs) v = cond (eqb (getD ss x 0) v) a z
 
-begun-same : {A : Type 0} (z : A) (ss xs : List ℕ) (v : ℕ) → begun z z ss xs v ≡ z
+pub begun-same : {A : Type 0} (z : A) (ss xs : List ℕ) (v : ℕ) → begun z z ss xs v ≡ z
 begun-same z ss [] v = refl
 begun-same z ss (x ∷ xs) v = split (eqb (getD ss x 0) v) (λ e. rw e) (λ e. rw e)
 
@@ -152,7 +152,7 @@ unfolding pick
 pick-suc s v ss [] = refl
 pick-suc s v ss (x ∷ xs) = split (eqb (getD ss x 0) v) (λ e. rw (e, pick-suc s v ss xs)) (λ e. rw (e, pick-suc s v ss xs))
 
-same-members : (ss ix : List ℕ) → Ordered ss (up-from 0 (length ss)) ix → (v : ℕ) → mem v (map (λ y. getD ss y 0) ix) ≡ mem v ss
+pub same-members : (ss ix : List ℕ) → Ordered ss (up-from 0 (length ss)) ix → (v : ℕ) → mem v (map (λ y. getD ss y 0) ix) ≡ mem v ss
 same-members ss ix o v =
     let up : List ℕ = up-from 0 (length ss) in
     mem-pick ss v ix ∙ ap some (o .same v) ∙ sym (mem-pick ss v up) ∙ ap (mem v) (all-of-them 0 ss)
@@ -184,7 +184,7 @@ pick-group v (r ∷ rs) =
     ap (map (λ i. getD (r ∷ rs) i no-record)) p ∙ map-suc r no-record rs (pick (map number-of rs) v (up-from 0 (length rs))) ∙ pick-group v rs in
     split (eqb (number-of r) v) (λ e. rw e (ap (λ (l : Layer). r ∷ l) q)) (λ e. rw e q)
 
-along-map : {A : Type 0} (g : A → Record → A) (h : ℕ → Record) (a : A) (xs : List ℕ) → along g a (map h xs) ≡ along (λ b i. g b (h i)) a xs
+pub along-map : {A : Type 0} (g : A → Record → A) (h : ℕ → Record) (a : A) (xs : List ℕ) → along g a (map h xs) ≡ along (λ b i. g b (h i)) a xs
 unfolding along
 along-map g h a [] = refl
 along-map g h a (x ∷ xs) = along-map g h (g a (h x)) xs

@@ -10,7 +10,7 @@ ghost use Rattle.rules.specs.Rules.{use-of, has-value, oldest-use, broke
 ghost use Rattle.rules.specs.Walk.{bit-of, last-of};
 
 // The last use of record i.
-fn last_use(s: &[u8], n: usize, i: usize) -> u64
+pub fn last_use(s: &[u8], n: usize, i: usize) -> u64
     requires { ⌜ (n * 104 ≤ length (now s)) × (i < n) ⌝ }
     ensures { λ r. ⌜ r ≡ use-of (getD (records-of n (now (s .entry))) i no-record .content) ⌝ }
 {
@@ -18,7 +18,7 @@ fn last_use(s: &[u8], n: usize, i: usize) -> u64
 }
 
 // Whether record i has a value.
-fn valued(s: &[u8], n: usize, i: usize) -> bool
+pub fn valued(s: &[u8], n: usize, i: usize) -> bool
     requires { ⌜ (n * 104 ≤ length (now s)) × (i < n) ⌝ }
     ensures { λ r. ⌜ r ≡ has-value (getD (records-of n (now (s .entry))) i no-record .content) ⌝ }
 {
@@ -26,7 +26,7 @@ fn valued(s: &[u8], n: usize, i: usize) -> bool
 }
 
 // Whether the number at place j is the last of its slot.
-fn ends(s: &[u8], n: usize, ix: &[usize], j: usize) -> bool
+pub fn ends(s: &[u8], n: usize, ix: &[usize], j: usize) -> bool
     requires { ⌜ (n * 104 ≤ length (now s)) × Names n (now ix) × (j < length (now ix)) ⌝ }
     ensures { λ r. ⌜ r ≡ last-of (numbers n (now (s .entry))) (drop j (now (ix .entry))) ⌝ }
 {
@@ -36,7 +36,8 @@ fn ends(s: &[u8], n: usize, ix: &[usize], j: usize) -> bool
     !order::not_after(s, ix[j + 1], ix[j])
 }
 
-fn either(a: bool, b: bool) -> bool
+// Whether one of two holds.
+pub fn either(a: bool, b: bool) -> bool
     ensures { λ r. ⌜ r ≡ (a || b) ⌝ }
 {
     if a {
@@ -45,7 +46,8 @@ fn either(a: bool, b: bool) -> bool
     b
 }
 
-fn bit(a: bool) -> usize
+// 1 for true, 0 for false.
+pub fn bit(a: bool) -> usize
     ensures { λ r. ⌜ r ≡ bit-of a ⌝ }
 {
     if a {
@@ -54,7 +56,8 @@ fn bit(a: bool) -> usize
     0
 }
 
-fn larger(a: u64, b: u64) -> u64
+// The larger of two numbers.
+pub fn larger(a: u64, b: u64) -> u64
     ensures { λ r. ⌜ r ≡ max a b ⌝ }
 {
     if a < b {
@@ -64,7 +67,7 @@ fn larger(a: u64, b: u64) -> u64
 }
 
 // The oldest last use that serves.
-fn oldest(retention: Retention, number: u64) -> u64
+pub fn oldest(retention: Retention, number: u64) -> u64
     ensures { λ r. ⌜ r ≡ oldest-use retention number ⌝ }
 {
     match retention {

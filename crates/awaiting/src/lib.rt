@@ -1,0 +1,404 @@
+// The awaiting slots of a store in bytes, rising by slot: 72 bytes each, the slot's seven words, its waiters, and 1 if it is taken.
+use model::delta_snapshot::Slot;
+use model::storage_memo::Address;
+use model::storage_memo::U256;
+use records::Found;
+use records::Order;
+ghost use mathlib.Core.Path.{_≡_};
+ghost use mathlib.Core.Bool.{false, cond};
+ghost use Prim.Native.Nat.{_+_, _-_, _*_, _≤_, _<_, _^_};
+ghost use mathlib.Core.List.{_∷_, _++_, []};
+ghost use lib.Dec.{eqb};
+ghost use lib.ListN.{length, take, drop, getD, replicate};
+ghost use Rattle.model.specs.Slots.{slot-words, slot-eqb, mem};
+ghost use Rattle.model.specs.Reads as reads;
+ghost use Rattle.model.specs.Entries.{slot-of, members-of};
+ghost use Rattle.words.specs.Parts.{part, placed};
+ghost use Rattle.image.specs.Image.{bytes-of};
+ghost use Rattle.image.specs.Area.{pending-of, with-pending};
+ghost use Rattle.awaiting.specs.Awaiting.{entry-at, place-in, Rising, Ready, Holds, Lists, entry-slots};
+
+// The place of a slot among the n awaiting slots that s begins with, by halves.
+pub fn find(s: &[u8], n: usize, slot: Slot) -> Found
+    requires { ⌜ Rising n (now s) ⌝ }
+    ensures { λ r. ⌜ r ≡ place-in slot (pending-of n (now (s .entry))) ⌝ }
+{
+    let mut lo = 0;
+    let mut hi = n;
+    while lo < hi {
+        let mid = lo + (hi - lo) / 2;
+        match records::compare(s, mid * 72, slot) {
+            Order::Less => {
+                lo = mid + 1;
+            }
+            Order::Equal => return Found::At(mid),
+            Order::Greater => {
+                hi = mid;
+            }
+        }
+    }
+    Found::Absent(lo)
+}
+
+// The waiters of awaiting slot i.
+fn waiters_at(s: &[u8], i: usize) -> u64
+    requires { ⌜ (i + 1) * 72 ≤ length (now s) ⌝ }
+    ensures { λ r. ⌜ r ≡ entry-at i (now (s .entry)) .waiters ⌝ }
+{
+    words::read_u64(s, i * 72 + 56)
+}
+
+// Whether awaiting slot i is taken.
+fn taken_at(s: &[u8], i: usize) -> bool
+    requires { ⌜ (i + 1) * 72 ≤ length (now s) ⌝ }
+    ensures { λ r. ⌜ r ≡ entry-at i (now (s .entry)) .taken ⌝ }
+{
+    words::read_u64(s, i * 72 + 64) != 0
+}
+
+// The waiters of a slot: 0 if it awaits nothing.
+pub fn waiters(s: &[u8], n: usize, slot: Slot) -> u64
+    requires { ⌜ Rising n (now s) ⌝ }
+    ensures { λ r. ⌜ r ≡ reads.waiters-of slot (pending-of n (now (s .entry))) ⌝ }
+{
+    let Found::At(i) = find(s, n, slot) else {
+        return 0;
+    };
+    waiters_at(s, i)
+}
+
+// Whether a slot awaits an answer and is taken.
+pub fn is_taken(s: &[u8], n: usize, slot: Slot) -> bool
+    requires { ⌜ Rising n (now s) ⌝ }
+    ensures { λ r. ⌜ r ≡ reads.is-taken slot (pending-of n (now (s .entry))) ⌝ }
+{
+    let Found::At(i) = find(s, n, slot) else {
+        return false;
+    };
+    taken_at(s, i)
+}
+
+// Whether a slot awaits an answer.
+pub fn is_awaiting(s: &[u8], n: usize, slot: Slot) -> bool
+    requires { ⌜ Rising n (now s) ⌝ }
+    ensures { λ r. ⌜ r ≡ reads.is-awaiting slot (pending-of n (now (s .entry))) ⌝ }
+{
+    match find(s, n, slot) {
+        Found::At(_) => true,
+        Found::Absent(_) => false,
+    }
+}
+
+// Puts a slot with one waiter, not taken, before awaiting slot i of n.
+fn insert_at(s: &mut [u8], n: usize, i: usize, slot: Slot)
+    requires { ⌜ (i ≤ n) × ((n + 1) * 72 ≤ length (now s)) ⌝ }
+    ensures { λ _. ⌜ now (s .exit) ≡ take (i * 72) (now (s .entry)) ++ bytes-of (slot-words slot ++ (1 ∷ 0 ∷ [])) ++ part (i * 72) ((n - i) * 72) (now (s .entry)) ++ drop ((n + 1) * 72) (now (s .entry)) ⌝ }
+{
+    words::move_up(s, i * 72, (n - i) * 72, 72);
+    records::write_slot(s, i * 72, slot);
+    words::write_u64(s, i * 72 + 56, 1);
+    words::write_u64(s, i * 72 + 64, 0);
+}
+
+// An unserved read: the slot joins the queue or, if it awaits already, gains a waiter. The number of awaiting slots then.
+pub fn join(s: &mut [u8], n: usize, slot: Slot) -> usize
+    requires { ⌜ Ready n (now s) × (length (reads.join slot (pending-of n (now s))) ≤ 64) ⌝ }
+    ensures { λ r. ⌜ Holds r (now (s .exit)) n (reads.join slot (pending-of n (now (s .entry)))) (now (s .entry)) ⌝ }
+{
+    match find(s, n, slot) {
+        Found::At(i) => {
+            let w = waiters_at(s, i);
+            words::write_u64(s, i * 72 + 56, w + 1);
+            n
+        }
+        Found::Absent(i) => {
+            insert_at(s, n, i, slot);
+            n + 1
+        }
+    }
+}
+
+// The number of the queue's slots.
+pub fn queue_len(s: &[u8], n: usize) -> usize
+    requires { ⌜ n * 72 ≤ length (now s) ⌝ }
+    ensures { λ r. ⌜ r ≡ length (reads.queued (pending-of n (now (s .entry)))) ⌝ }
+{
+    let mut k = 0;
+    let mut i = 0;
+    while i < n {
+        if !taken_at(s, i) {
+            k += 1;
+        }
+        i += 1;
+    }
+    k
+}
+
+// Writes the slot of awaiting slot i as output entry k, unless it is taken; the number of entries then.
+fn list_one(s: &[u8], i: usize, out: &mut [u8], k: usize) -> usize
+    requires { ⌜ ((i + 1) * 72 ≤ length (now s)) × (entry-at i (now s) .taken ≡ false → (k + 1) * 52 ≤ length (now out)) ⌝ }
+    ensures { λ r. ⌜ (r ≡ cond (entry-at i (now (s .entry)) .taken) k (k + 1)) × (now (out .exit) ≡ cond (entry-at i (now (s .entry)) .taken) (now (out .entry)) (placed (k * 52) (part (i * 72 + 4) 52 (now (s .entry))) (now (out .entry)))) ⌝ }
+{
+    if taken_at(s, i) {
+        return k;
+    }
+    let a = i * 72 + 4;
+    let e = i * 72 + 56;
+    words::place(out, k * 52, &s[a..e]);
+    k + 1
+}
+
+// Lists the queue's slots, rising, to the output; their number.
+fn list_queued(s: &[u8], n: usize, out: &mut [u8]) -> usize
+    requires { ⌜ Ready n (now s) × (52 * length (reads.queued (pending-of n (now s))) ≤ length (now out)) ⌝ }
+    ensures { λ r. ⌜ Lists r (now (out .exit)) (pending-of n (now (s .entry))) (now (out .entry)) ⌝ }
+{
+    let mut k = 0;
+    let mut i = 0;
+    while i < n {
+        k = list_one(s, i, out, k);
+        i += 1;
+    }
+    k
+}
+
+// Marks all awaiting slots taken.
+fn mark_taken(s: &mut [u8], n: usize)
+    requires { ⌜ Ready n (now s) ⌝ }
+    ensures { λ _. ⌜ now (s .exit) ≡ with-pending n (reads.take-queued (pending-of n (now (s .entry)))) (now (s .entry)) ⌝ }
+{
+    let mut i = 0;
+    while i < n {
+        words::write_u64(s, i * 72 + 64, 1);
+        i += 1;
+    }
+}
+
+// A take: lists the queue's slots, rising, to the output and marks them taken; their number.
+pub fn take_queued(s: &mut [u8], n: usize, out: &mut [u8]) -> usize
+    requires { ⌜ Ready n (now s) × (52 * length (reads.queued (pending-of n (now s))) ≤ length (now out)) ⌝ }
+    ensures { λ r. ⌜ Lists r (now (out .exit)) (pending-of n (now (s .entry))) (now (out .entry)) × (now (s .exit) ≡ with-pending n (reads.take-queued (pending-of n (now (s .entry)))) (now (s .entry))) ⌝ }
+{
+    let k = list_queued(s, n, out);
+    mark_taken(s, n);
+    k
+}
+
+// Moves the n bytes `by` places past `at` down to it, the first byte first.
+fn move_down(s: &mut [u8], at: usize, n: usize, by: usize)
+    requires { ⌜ at + by + n ≤ length (now s) ⌝ }
+    ensures { λ _. ⌜ now (s .exit) ≡ placed at (part (at + by) n (now (s .entry))) (now (s .entry)) ⌝ }
+{
+    let mut j = 0;
+    while j < n {
+        s[at + j] = s[at + by + j];
+        j += 1;
+    }
+}
+
+// Sets the n bytes from `at` on to 0.
+fn clear(s: &mut [u8], at: usize, n: usize)
+    requires { ⌜ at + n ≤ length (now s) ⌝ }
+    ensures { λ _. ⌜ now (s .exit) ≡ placed at (replicate n 0) (now (s .entry)) ⌝ }
+{
+    let mut j = 0;
+    while j < n {
+        s[at + j] = 0;
+        j += 1;
+    }
+}
+
+// Takes awaiting slot i of n away: those after it move down, and the last one's bytes are 0.
+fn remove_at(s: &mut [u8], n: usize, i: usize)
+    requires { ⌜ (i < n) × (n * 72 ≤ length (now s)) ⌝ }
+    ensures { λ _. ⌜ now (s .exit) ≡ take (i * 72) (now (s .entry)) ++ part ((i + 1) * 72) ((n - (i + 1)) * 72) (now (s .entry)) ++ replicate 72 0 ++ drop (n * 72) (now (s .entry)) ⌝ }
+{
+    move_down(s, i * 72, (n - (i + 1)) * 72, 72);
+    clear(s, (n - 1) * 72, 72);
+}
+
+// Takes a slot out of the n awaiting ones; the number of awaiting slots then.
+pub fn remove(s: &mut [u8], n: usize, slot: Slot) -> usize
+    requires { ⌜ Ready n (now s) ⌝ }
+    ensures { λ r. ⌜ Holds r (now (s .exit)) n (reads.remove-pending slot (pending-of n (now (s .entry)))) (now (s .entry)) ⌝ }
+{
+    let Found::At(i) = find(s, n, slot) else {
+        return n;
+    };
+    remove_at(s, n, i);
+    n - 1
+}
+
+// The first four bytes of a word.
+fn high(x: u64) -> u32
+    ensures { λ r. ⌜ (r * 2 ^ 32 ≤ x) × (x < (r + 1) * 2 ^ 32) ⌝ }
+{
+    (x / 0x1_0000_0000) as u32
+}
+
+// The slot in the 52 bytes at `at`.
+pub fn slot_in(list: &[u8], at: usize) -> Slot
+    requires { ⌜ at + 52 ≤ length (now list) ⌝ }
+    ensures { λ r. ⌜ r ≡ slot-of (drop at (now (list .entry))) ⌝ }
+{
+    Slot {
+        address: Address {
+            w0: high(words::read_u64(list, at)),
+            w1: words::read_u64(list, at + 4),
+            w2: words::read_u64(list, at + 12),
+        },
+        index: U256 {
+            w0: words::read_u64(list, at + 20),
+            w1: words::read_u64(list, at + 28),
+            w2: words::read_u64(list, at + 36),
+            w3: words::read_u64(list, at + 44),
+        },
+    }
+}
+
+// Whether two slots are equal.
+fn same(a: Slot, b: Slot) -> bool
+    ensures { λ r. ⌜ r ≡ slot-eqb a b ⌝ }
+{
+    if a.address.w0 != b.address.w0 {
+        return false;
+    }
+    if a.address.w1 != b.address.w1 {
+        return false;
+    }
+    if a.address.w2 != b.address.w2 {
+        return false;
+    }
+    if a.index.w0 != b.index.w0 {
+        return false;
+    }
+    if a.index.w1 != b.index.w1 {
+        return false;
+    }
+    if a.index.w2 != b.index.w2 {
+        return false;
+    }
+    a.index.w3 == b.index.w3
+}
+
+// Whether the entries from `from` on name a slot.
+fn names(list: &[u8], stride: usize, from: usize, slot: Slot) -> bool
+    requires { ⌜ (52 ≤ stride) × (from ≤ length (now list)) ⌝ }
+    ensures { λ r. ⌜ r ≡ mem slot (entry-slots stride (drop from (now (list .entry)))) ⌝ }
+{
+    let mut at = from;
+    while stride <= list.len() - at {
+        if same(slot_in(list, at), slot) {
+            return true;
+        }
+        at += stride;
+    }
+    false
+}
+
+// Whether a lent list names a slot twice.
+pub fn has_duplicate(list: &[u8], stride: usize) -> bool
+    requires { ⌜ 52 ≤ stride ⌝ }
+    ensures { λ r. ⌜ r ≡ reads.has-duplicate (entry-slots stride (now (list .entry))) ⌝ }
+{
+    let mut at = 0;
+    while stride <= list.len() - at {
+        let slot = slot_in(list, at);
+        at += stride;
+        if names(list, stride, at, slot) {
+            return true;
+        }
+    }
+    false
+}
+
+// Whether every slot of a lent list is taken.
+pub fn all_taken(s: &[u8], n: usize, list: &[u8], stride: usize) -> bool
+    requires { ⌜ Rising n (now s) × (52 ≤ stride) ⌝ }
+    ensures { λ r. ⌜ r ≡ reads.all-taken (entry-slots stride (now (list .entry))) (pending-of n (now (s .entry))) ⌝ }
+{
+    let mut at = 0;
+    while stride <= list.len() - at {
+        if !is_taken(s, n, slot_in(list, at)) {
+            return false;
+        }
+        at += stride;
+    }
+    true
+}
+
+// The waiters that an answer to the slots of a lent list wakes.
+pub fn woken(s: &[u8], n: usize, list: &[u8], stride: usize) -> u64
+    requires { ⌜ Ready n (now s) × (52 ≤ stride) × (reads.has-duplicate (entry-slots stride (now list)) ≡ false) ⌝ }
+    ensures { λ r. ⌜ r ≡ reads.woken (entry-slots stride (now (list .entry))) (pending-of n (now (s .entry))) ⌝ }
+{
+    let mut sum: u64 = 0;
+    let mut at = 0;
+    while stride <= list.len() - at {
+        sum += waiters(s, n, slot_in(list, at));
+        at += stride;
+    }
+    sum
+}
+
+// The waiters of the member at `at`, if it has a value.
+fn valued_at(s: &[u8], n: usize, list: &[u8], at: usize) -> u64
+    requires { ⌜ Rising n (now s) × (at + 85 ≤ length (now list)) ⌝ }
+    ensures { λ r. ⌜ r ≡ cond (eqb (getD (now (list .entry)) (at + 52) 0) 0) 0 (reads.waiters-of (slot-of (drop at (now (list .entry)))) (pending-of n (now (s .entry)))) ⌝ }
+{
+    if list[at + 52] == 0 {
+        return 0;
+    }
+    waiters(s, n, slot_in(list, at))
+}
+
+// The waiters that the members of a lent answer wake with a value.
+pub fn woken_valued(s: &[u8], n: usize, list: &[u8]) -> u64
+    requires { ⌜ Ready n (now s) × (reads.has-duplicate (entry-slots 85 (now list)) ≡ false) ⌝ }
+    ensures { λ r. ⌜ r ≡ reads.woken (reads.valued-slots (members-of (now (list .entry)))) (pending-of n (now (s .entry))) ⌝ }
+{
+    let mut sum: u64 = 0;
+    let mut at = 0;
+    while 85 <= list.len() - at {
+        sum += valued_at(s, n, list, at);
+        at += 85;
+    }
+    sum
+}
+
+// The waiters that the members of a lent answer wake with a refusal: all that it wakes but those with a value.
+pub fn woken_refused(s: &[u8], n: usize, list: &[u8]) -> u64
+    requires { ⌜ Ready n (now s) × (reads.has-duplicate (entry-slots 85 (now list)) ≡ false) ⌝ }
+    ensures { λ r. ⌜ r ≡ reads.woken (reads.refused-slots (members-of (now (list .entry)))) (pending-of n (now (s .entry))) ⌝ }
+{
+    woken(s, n, list, 85) - woken_valued(s, n, list)
+}
+
+// The number of refused members of a lent answer.
+pub fn refused_members(list: &[u8]) -> usize
+    ensures { λ r. ⌜ r ≡ length (reads.refused-slots (members-of (now (list .entry)))) ⌝ }
+{
+    let mut k = 0;
+    let mut at = 0;
+    while 85 <= list.len() - at {
+        if list[at + 52] == 0 {
+            k += 1;
+        }
+        at += 85;
+    }
+    k
+}
+
+// Takes the slots of a lent list out of the n awaiting ones; the number of awaiting slots then.
+pub fn remove_all(s: &mut [u8], n: usize, list: &[u8], stride: usize) -> usize
+    requires { ⌜ Ready n (now s) × (52 ≤ stride) ⌝ }
+    ensures { λ r. ⌜ Holds r (now (s .exit)) n (reads.remove-all-pending (entry-slots stride (now (list .entry))) (pending-of n (now (s .entry)))) (now (s .entry)) ⌝ }
+{
+    let mut k = n;
+    let mut at = 0;
+    while stride <= list.len() - at {
+        k = remove(s, k, slot_in(list, at));
+        at += stride;
+    }
+    k
+}

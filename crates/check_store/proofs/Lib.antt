@@ -1,0 +1,2 @@
+-- Laws of the chain of checks.
+pub mod Links

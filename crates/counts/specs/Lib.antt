@@ -1,0 +1,2 @@
+-- The counts that the contracts of `counts` cite.
+pub mod Counts

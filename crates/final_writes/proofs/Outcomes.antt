@@ -1,0 +1,171 @@
+-- The outcome of a call: a refusal, or the seed of all accounts walked. Assumes nothing.
+use mathlib.Core.Path.{_≡_, refl, sym, ap, ap₂, subst, _∙_}
+use mathlib.Core.Bool.{Bool, true, false, cond, _||_}
+use mathlib.Core.List.{List, [], _∷_, map}
+use mathlib.Core.Option.{Option, some, none}
+use Prim.Native.Nat.{ℕ, suc, _+_, _-_, _*_, _/_, _≤_, _<_, min}
+use native.Mathlib.Nat.{zero-add, zero-mul, sub-zero}
+use native.Mathlib.Omega.{arith}
+use lib.Dec.{ltb}
+use lib.ListN.{length, take, drop, length-map, length-take}
+use lib.Seq.{take-all}
+use borrow.Author.Tests.{eqb-true, lt-ltb, le-ltb, ltb-true, ltb-false}
+use Rattle.model.specs.declared.storage_memo.U256.{U256}
+use Rattle.model.specs.Refusals.{first-that-holds}
+use Rattle.model.proofs.SlotLaws.{split}
+use Rattle.words.specs.Parts.{placed}
+use Rattle.final_writes.specs.declared.Cap.{Cap}
+use Rattle.final_writes.specs.declared.Cap.the-variants.{Unlimited, AtMost}
+use Rattle.final_writes.specs.declared.FinalWritesAnswer.the-variants.{No, Seeded}
+use Rattle.final_writes.specs.declared.Walk.{Walk}
+use Rattle.final_writes.specs.FinalWrites.{SlotChanges, AccountChanges, LentAccount, LentLists, BalPlan, group-accounts, accounts-of, admitted-writes, admitted-reads, filtered-entries, within-cap, seed-from-accounts, sum, counts-differ, outputs-too-short, final-writes-refusal, refuse, seeded, conclude, final-writes}
+use Rattle.final_writes.specs.Lent.{read-u256, read-slot, read-account, lent-lists, cap-of, plan-of, joined, beginning-with, write-bytes, read-bytes, Outcome, outcome, lent-outcome, Answers}
+use Rattle.final_writes.specs.Walking.{limit-of, Filled, fill, start, WalkFits, AccountsSeeded, counts-of}
+use Rattle.final_writes.proofs.Entries.{map-entries, agree, length-entries, length-read-bytes, length-write-bytes}
+use Rattle.final_writes.proofs.Filling.{fill-found, fill-is}
+
+-- Caps ------------------------------------------------------------------------------------------------
+
+pub within-is : (c : Cap) (n : ℕ) → n ≤ 18446744073709551615 → within-cap (cap-of c) n ≡ min n (limit-of c)
+within-is Unlimited n h = omega arith
+within-is (AtMost k) n h =
+    split (ltb k n)
+    (λ e. ap (λ (t : Bool). cond t k n) e ∙ omega (arith, ltb-true k n e))
+    (λ e. ap (λ (t : Bool). cond t k n) e ∙ omega (arith, ltb-false k n e))
+
+take-min : {A : Type 0} (l : List A) (k : ℕ) → take k l ≡ take (min (length l) k) l
+take-min {A} l k =
+    split (ltb k (length l))
+    (λ e. let h : k < length l = ltb-true k (length l) e in let m : min (length l) k ≡ k = omega arith in ap (λ (i : ℕ). take i l) (sym m))
+    (λ e. let h : length l ≤ k = ltb-false k (length l) e in let m : min (length l) k ≡ length l = omega arith in
+    take-all k l h ∙ sym (take-all (length l) l (omega arith)) ∙ ap (λ (i : ℕ). take i l) (sym m))
+
+-- An output that was filled under a cap -----------------------------------------------------------------
+
+-- What a walk filled: so many were found, those within the cap are at the beginning, and so many they are.
+pub record FilledUnder {A : Type 0} (g : A → List ℕ) (c : Cap) (xs : List A) (n : ℕ) (out out' : List ℕ) : Type 0 where
+  pub found-is : n ≡ length xs
+  pub out-is : out' ≡ beginning-with (map g (take (within-cap (cap-of c) (length xs)) xs)) out
+  pub within : within-cap (cap-of c) (length xs) ≡ min n (limit-of c)
+  pub count-is : min n (limit-of c) ≡ length (take (within-cap (cap-of c) (length xs)) xs)
+
+pub filled-under : {A : Type 0} (g : A → List ℕ) (w : ℕ) (wide : (x : A) → length (g x) ≡ w) (c : Cap) (xs : List A) (n : ℕ) (out out' : List ℕ) → n * w ≤ length out → n ≤ 18446744073709551615
+    → record { found = n; out = out' } ≡ fill w (limit-of c) (map g xs) (record { found = 0; out = out }) → FilledUnder g c xs n out out'
+filled-under {A} g w wide c xs n out out' h small e =
+    let found : n ≡ length xs = ap (λ (f : Filled). f .found) e ∙ fill-found w (limit-of c) (map g xs) (record { found = 0; out = out }) ∙ zero-add (length (map g xs)) ∙ length-map xs g in
+    let zero-found : 0 + length xs ≡ n = zero-add (length xs) ∙ sym found in
+    let fits : (0 + length xs) * w ≤ length out = subst (λ (k : ℕ). k * w ≤ length out) (sym zero-found) h in
+    let k : ℕ = within-cap (cap-of c) (length xs) in
+    let m : k ≡ min (length xs) (limit-of c) = within-is c (length xs) (omega arith) in
+    let t : take (limit-of c - 0) xs ≡ take k xs = ap (λ (i : ℕ). take i xs) (sub-zero (limit-of c)) ∙ take-min xs (limit-of c) ∙ ap (λ (i : ℕ). take i xs) (sym m) in
+    record {
+      found-is = found;
+      out-is =
+          ap (λ (f : Filled). f .out) (e ∙ fill-is g w (limit-of c) wide xs 0 out fits)
+          ∙ ap₂ (λ (i : ℕ) (l : List A). placed i (joined (map g l)) out) (zero-mul w) t;
+      within = m ∙ ap (λ (i : ℕ). min i (limit-of c)) (sym found);
+      count-is = sym (length-take k xs ∙ omega (arith, m, found));
+    }
+
+-- All accounts ----------------------------------------------------------------------------------------
+
+length-group : (l : List LentAccount) (ss : List SlotChanges) (rs : List U256) → length (group-accounts l ss rs) ≡ length l
+unfolding group-accounts
+length-group [] ss rs = refl
+length-group (a ∷ l) ss rs = ap suc (length-group l (drop (a .slot-count) ss) (drop (a .read-count) rs))
+
+module _ (accounts slots changes reads plan wo ro : List ℕ) (max-writes max-reads : Cap) where
+  abbrev the-plan : BalPlan
+  the-plan = plan-of plan max-writes max-reads
+
+  abbrev lists : LentLists
+  lists = lent-lists accounts slots changes reads
+
+  abbrev called : Outcome
+  called = lent-outcome the-plan lists wo ro
+
+  abbrev too-short : Bool
+  too-short = outputs-too-short lists (length wo / 84) (length ro / 52)
+
+  -- Counts that agree are where a walk begins.
+  pub start-fits : counts-differ lists ≡ false → WalkFits accounts slots changes reads 0 start
+  start-fits e =
+      let all-agree = agree accounts slots changes reads e in
+      record {
+        slots-are = zero-add _ ∙ ap sum (map-entries (λ a. a .slot-count) read-account 36 (length accounts / 36) accounts) ∙ eqb-true _ _ (all-agree .0);
+        changes-are = zero-add _ ∙ ap sum (map-entries (λ a. a .change-count) read-slot 40 (length slots / 40) slots) ∙ eqb-true _ _ (all-agree .1);
+        reads-are = zero-add _ ∙ ap sum (map-entries (λ a. a .read-count) read-account 36 (length accounts / 36) accounts) ∙ eqb-true _ _ (all-agree .2);
+        few-writes = omega arith;
+        few-reads = omega arith;
+        few-filtered = omega arith;
+      }
+
+  -- The outcome by the two tests.
+  decided : (s t : Bool) → counts-differ lists ≡ s → too-short ≡ t
+      → called ≡ outcome (conclude (cond s (some 10) (cond t (some 9) none)) (seed-from-accounts the-plan (accounts-of lists))) wo ro
+  unfolding lent-outcome final-writes final-writes-refusal first-that-holds
+  decided s t e f =
+      ap₂ (λ (x y : Bool). outcome (conclude (cond x (some 10) (cond y (some 9) none)) (seed-from-accounts the-plan (accounts-of lists))) wo ro) e f
+
+  short-is : too-short ≡ (ltb (length wo / 84) (length slots / 40) || ltb (length ro / 52) (length reads / 32))
+  unfolding outputs-too-short
+  short-is =
+      ap₂ (λ (x y : ℕ). ltb (length wo / 84) x || ltb (length ro / 52) y) (length-entries read-slot 40 (length slots / 40) slots) (length-entries read-u256 32 (length reads / 32) reads)
+
+  refused : (n : ℕ) (s t : Bool) → cond s (some 10) (cond t (some 9) none) ≡ some n → counts-differ lists ≡ s → too-short ≡ t → Answers (No n) wo ro called
+  refused n s t k e f =
+      let o : called ≡ outcome (refuse n) wo ro = decided s t e f ∙ ap (λ (x : Option ℕ). outcome (conclude x (seed-from-accounts the-plan (accounts-of lists))) wo ro) k in
+      record { answer-is = sym (ap (λ (x : Outcome). x .answer) o); writes-are = sym (ap (λ (x : Outcome). x .writes-out) o); reads-are = sym (ap (λ (x : Outcome). x .reads-out) o) }
+
+  pub refused-10 : counts-differ lists ≡ true → Answers (No 10) wo ro called
+  refused-10 e = refused 10 true (too-short) refl e refl
+
+  pub refused-9-writes : counts-differ lists ≡ false → length wo / 84 < length slots / 40 → Answers (No 9) wo ro called
+  refused-9-writes e h = refused 9 false true refl e (short-is ∙ ap (λ (x : Bool). x || ltb (length ro / 52) (length reads / 32)) (lt-ltb (length wo / 84) (length slots / 40) h))
+
+  pub refused-9-reads : counts-differ lists ≡ false → length slots / 40 ≤ length wo / 84 → length ro / 52 < length reads / 32 → Answers (No 9) wo ro called
+  refused-9-reads e g h = refused 9 false true refl e (short-is ∙ ap₂ (λ (x y : Bool). x || y) (le-ltb (length wo / 84) (length slots / 40) g) (lt-ltb (length ro / 52) (length reads / 32) h))
+
+  module _ (w : Walk) (wo' ro' : List ℕ) (alike : counts-differ lists ≡ false) (g : length slots / 40 ≤ length wo / 84) (h : length reads / 32 ≤ length ro / 52)
+      (slots-small : length slots < 18446744073709551616) (reads-small : length reads < 18446744073709551616)
+      (s : AccountsSeeded the-plan accounts slots changes reads (limit-of max-writes) (limit-of max-reads) 0 (length accounts / 36) start wo ro w wo' ro') where
+    abbrev all : List AccountChanges
+    all = accounts-of lists
+
+    whole : take (length accounts / 36) all ≡ all
+    whole =
+        let e : length all ≡ length accounts / 36 = length-group _ _ _ ∙ length-entries read-account 36 (length accounts / 36) accounts in
+        take-all (length accounts / 36) all (omega arith)
+
+    found-slots : w .writes ≤ length slots / 40
+    found-slots = omega (arith, s .fits .few-writes, s .fits .slots-are)
+
+    found-reads : w .reads ≤ length reads / 32
+    found-reads = omega (arith, s .fits .few-reads, s .fits .reads-are)
+
+    writes : FilledUnder write-bytes max-writes (admitted-writes the-plan all) (w .writes) wo wo'
+    writes = filled-under write-bytes 84 length-write-bytes max-writes (admitted-writes the-plan all) (w .writes) wo wo' (omega (arith, found-slots)) (omega (arith, found-slots))
+        (s .writes-filled ∙ ap (λ (x : List AccountChanges). fill 84 (limit-of max-writes) (map write-bytes (admitted-writes the-plan x)) (record { found = 0; out = wo })) whole)
+
+    reads-filled : FilledUnder read-bytes max-reads (admitted-reads the-plan all) (w .reads) ro ro'
+    reads-filled = filled-under read-bytes 52 length-read-bytes max-reads (admitted-reads the-plan all) (w .reads) ro ro' (omega (arith, found-reads)) (omega (arith, found-reads))
+        (s .reads-filled ∙ ap (λ (x : List AccountChanges). fill 52 (limit-of max-reads) (map read-bytes (admitted-reads the-plan x)) (record { found = 0; out = ro })) whole)
+
+    filtered : w .filtered ≡ filtered-entries the-plan all
+    filtered = s .filtered-is ∙ zero-add _ ∙ ap (filtered-entries the-plan) whole
+
+    pub accepted : Answers (Seeded (counts-of w (limit-of max-writes) (limit-of max-reads))) wo' ro' called
+    unfolding seed-from-accounts
+    accepted =
+        let o : called ≡ outcome (seeded (seed-from-accounts the-plan all)) wo ro = decided false false alike (short-is ∙ ap₂ (λ (x y : Bool). x || y) (le-ltb (length wo / 84) (length slots / 40) g) (le-ltb (length ro / 52) (length reads / 32) h)) in
+        let kw : ℕ = within-cap (cap-of max-writes) (length (admitted-writes the-plan all)) in
+        let kr : ℕ = within-cap (cap-of max-reads) (length (admitted-reads the-plan all)) in
+        let capped : w .writes - min (w .writes) (limit-of max-writes) + (w .reads - min (w .reads) (limit-of max-reads)) ≡ (length (admitted-writes the-plan all) - kw) + (length (admitted-reads the-plan all) - kr) =
+        omega (arith, writes .found-is, writes .within, reads-filled .found-is, reads-filled .within) in
+        record {
+          answer-is =
+              (λ i. Seeded (record { writes = writes .count-is i; reads = reads-filled .count-is i; filtered = filtered i; capped = capped i }))
+              ∙ sym (ap (λ (x : Outcome). x .answer) o);
+          writes-are = writes .out-is ∙ sym (ap (λ (x : Outcome). x .writes-out) o);
+          reads-are = reads-filled .out-is ∙ sym (ap (λ (x : Outcome). x .reads-out) o);
+        }

@@ -1,0 +1,33 @@
+-- `store::put` meets its contract: 20, or what `known::put` does. Assumes nothing.
+use denote.Ref.{now}
+use Rattle.model.specs.Store.{at-anchor, put}
+use Rattle.store.proofs.Checked.{not-a-store, a-store}
+use borrow.Author.Needs.{needs}
+use Rattle.store.proofs.put.Statement.{statement}
+use Rattle.store.proofs.put.Tie as tie
+
+is-store-requires : tie.Need-is-store-requires
+is-store-requires c κs = search needs
+
+same-length : tie.Need-same-length
+same-length c = search needs
+
+returns : tie.Need-returns
+returns c =
+    let a = c .before .before .before .before .args in
+    not-a-store (now (a .s)) (at-anchor (a .anchor) (put (a .slot) (a .value))) (c .before .is-store .result) (c .before .is-store .ensures) (c .if1 .taken)
+
+put-requires : tie.Need-put-requires
+put-requires c κs =
+    let e = c .before in
+    a-store (now (e .before .before .before .before .args .s)) (e .before .is-store .result) (e .before .is-store .ensures) (e .if1 .left)
+
+same-length-2 : tie.Need-same-length-2
+same-length-2 c = search needs
+
+returns-2 : tie.Need-returns-2
+returns-2 c = search needs
+
+pub put-spec : {M : Type 1} → statement M
+put-spec =
+    tie.close (tie.spec is-store-requires same-length returns put-requires same-length-2 returns-2)

@@ -1,0 +1,2 @@
+-- The definitions that the contracts of `totals` cite.
+pub mod Totals
