@@ -1,0 +1,126 @@
+// The calls for programs in other languages and for the benchmark. A call's arguments are words of eight bytes, the highest byte first:
+// the anchor's number, whether it has a hash, the hash (4), the slot's address (3) and index (4), a value (4).
+use known::Looked;
+use known::PutAnswer;
+use model::delta_snapshot::Slot;
+use model::storage_memo::Address;
+use model::storage_memo::ReadAnchor;
+use model::storage_memo::U256;
+ghost use mathlib.Core.Path.{_≡_};
+ghost use mathlib.Core.Bool.{true};
+ghost use Prim.Native.Nat.{_+_, _≤_};
+ghost use lib.ListN.{length};
+ghost use Rattle.model.specs.Layers.{is-some};
+ghost use Rattle.image.specs.Image.{decode};
+
+fn u256_at(args: &[u8], at: usize) -> U256
+    requires { ⌜ at + 32 ≤ length (now args) ⌝ }
+{
+    U256 {
+        w0: words::read_u64(args, at),
+        w1: words::read_u64(args, at + 8),
+        w2: words::read_u64(args, at + 16),
+        w3: words::read_u64(args, at + 24),
+    }
+}
+
+fn anchor_of(args: &[u8]) -> ReadAnchor
+    requires { ⌜ 136 ≤ length (now args) ⌝ }
+{
+    let number = words::read_u64(args, 0);
+    if words::read_u64(args, 8) == 0 {
+        return ReadAnchor::at(number);
+    }
+    ReadAnchor::identified(number, u256_at(args, 16))
+}
+
+fn slot_of(args: &[u8]) -> Slot
+    requires { ⌜ 136 ≤ length (now args) ⌝ }
+{
+    let high = words::read_u64(args, 48) % 0x1_0000_0000;
+    let address = Address {
+        w0: high as u32,
+        w1: words::read_u64(args, 56),
+        w2: words::read_u64(args, 64),
+    };
+    let index = u256_at(args, 72);
+    Slot { address, index }
+}
+
+// A refusal's number, 100 for none, 101 for a value.
+fn looked(r: Looked) -> u64 {
+    match r {
+        Looked::No(n) => n,
+        Looked::Nothing => 100,
+        Looked::Value(_) => 101,
+    }
+}
+
+// A refusal's number, or 100.
+fn stored(r: PutAnswer) -> u64 {
+    match r {
+        PutAnswer::No(n) => n,
+        PutAnswer::Stored => 100,
+    }
+}
+
+#[no_mangle]
+pub extern "C" fn poxilme_is_store(s: &[u8]) -> bool {
+    check_store::is_store(s)
+}
+
+// Arguments that are too short are answered by 9.
+#[no_mangle]
+pub extern "C" fn poxilme_look(s: &[u8], args: &[u8]) -> u64 {
+    if args.len() < 136 {
+        return 9;
+    }
+    looked(store::look(s, anchor_of(args), slot_of(args)))
+}
+
+#[no_mangle]
+pub extern "C" fn poxilme_get(s: &mut [u8], args: &[u8]) -> u64 {
+    if args.len() < 136 {
+        return 9;
+    }
+    looked(store::get(s, anchor_of(args), slot_of(args)))
+}
+
+#[no_mangle]
+pub extern "C" fn poxilme_put(s: &mut [u8], args: &[u8]) -> u64 {
+    if args.len() < 136 {
+        return 9;
+    }
+    stored(store::put(s, anchor_of(args), slot_of(args), u256_at(args, 104)))
+}
+
+// The same without the check, for bytes that are known to be a store.
+#[no_mangle]
+pub extern "C" fn poxilme_known_look(s: &[u8], args: &[u8]) -> u64
+    requires { ⌜ is-some (decode (now s)) ≡ true ⌝ }
+{
+    if args.len() < 136 {
+        return 9;
+    }
+    looked(known::look(s, anchor_of(args), slot_of(args)))
+}
+
+#[no_mangle]
+pub extern "C" fn poxilme_known_get(s: &mut [u8], args: &[u8]) -> u64
+    requires { ⌜ is-some (decode (now s)) ≡ true ⌝ }
+{
+    if args.len() < 136 {
+        return 9;
+    }
+    looked(known::get(s, anchor_of(args), slot_of(args)))
+}
+
+#[no_mangle]
+pub extern "C" fn poxilme_known_put(s: &mut [u8], args: &[u8]) -> u64
+    requires { ⌜ is-some (decode (now s)) ≡ true ⌝ }
+{
+    if args.len() < 136 {
+        return 9;
+    }
+    stored(known::put(s, anchor_of(args), slot_of(args), u256_at(args, 104)))
+}
