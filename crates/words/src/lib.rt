@@ -12,7 +12,7 @@ fn wide(x: u8) -> u64
 }
 
 // The number of the four bytes at `at`. Two of these are compiled to one load.
-fn half(s: &[u8], at: usize) -> u64
+pub fn half(s: &[u8], at: usize) -> u64
     requires { ⌜ at + 4 ≤ length (now s) ⌝ }
     ensures { λ r. ⌜ (r ≡ num (part at 4 (now (s .entry)))) × (r < 2 ^ 32) ⌝ }
 {

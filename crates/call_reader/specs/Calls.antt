@@ -1,0 +1,100 @@
+-- What the answers for calls stand for, given the list's bytes.
+use Prim.Native.Nat.{ℕ, _+_, _*_, _≤_}
+use mathlib.Core.Bool.{cond}
+use mathlib.Core.List.{List}
+use lib.Dec.{eqb}
+use lib.ListN.{length, drop}
+use Rattle.model.specs.declared.storage_memo.U256.{U256}
+use Rattle.model.specs.declared.storage_memo.ReadAnchor.{ReadAnchor}
+use Rattle.model.specs.declared.delta_snapshot.Slot.{Slot}
+use Rattle.model.specs.declared.delta_snapshot.Retention.{Retention}
+use Rattle.model.specs.Store as Store
+use Rattle.call_list.specs.CallList.{Parsed, parsed, fault, then, parse-list, parse-address, parse-write, parse-with-slot, parse-put, parse-take, parse-answer}
+use Rattle.reader.specs.Answers.{addresses-at, writes-at, slots-at, members-at, MembersWithin}
+use Rattle.call_reader.specs.declared.AnchoredCall.{AnchoredCall}
+use Rattle.call_reader.specs.declared.AnchoredCall.the-variants.{Look, Get, Put, Read, Take, Answer, AnswerFailed}
+use Rattle.call_reader.specs.declared.ListedCall.{ListedCall}
+use Rattle.call_reader.specs.declared.ListedCall.the-variants.{Open, Install, Advance, Anchored}
+use Rattle.call_reader.specs.declared.RetentionRead.{RetentionRead}
+use Rattle.call_reader.specs.declared.RetentionRead.the-variants as retention
+use Rattle.call_reader.specs.declared.AnchoredRead.{AnchoredRead}
+use Rattle.call_reader.specs.declared.AnchoredRead.the-variants as anchored
+use Rattle.call_reader.specs.declared.CallRead.{CallRead}
+use Rattle.call_reader.specs.declared.CallRead.the-variants as call
+
+-- The call at an anchor, and the call, that an answer stands for.
+abbrev pub anchored-of : List ℕ → AnchoredCall → Store.AnchoredCall
+anchored-of s (Look x) = Store.look x
+anchored-of s (Get x) = Store.get x
+anchored-of s (Put x v) = Store.put x v
+anchored-of s (Read x) = Store.read x
+anchored-of s Take = Store.take
+anchored-of s (Answer p) = Store.answer (members-at s p)
+anchored-of s (AnswerFailed p) = Store.answer-failed (slots-at s p)
+
+abbrev pub call-of : List ℕ → ListedCall → Store.Call
+call-of s (Open c d R) = Store.open-store c d R
+call-of s (Install a) = Store.on-store (Store.install a)
+call-of s (Advance a h k p q) = Store.on-store (Store.advance a h k (addresses-at s p) (writes-at s q))
+call-of s (Anchored a c) = Store.on-store (Store.at-anchor a (anchored-of s c))
+
+-- An advance's addresses and writes.
+abbrev pub parse-lists : ReadAnchor → U256 → ℕ → List ℕ → Parsed Store.Call
+parse-lists child h k l =
+    then (parse-list parse-address l) (λ relevance r. then (parse-list parse-write r) (λ ws q. parsed (Store.on-store (Store.advance child h k relevance ws)) q))
+
+-- A look, get or read of a slot, codes 4, 5 and 7; and what stands after the anchor, of the codes 4 to 9.
+abbrev pub slot-call : ℕ → Slot → Store.AnchoredCall
+slot-call code x = cond (eqb code 4) (Store.look x) (cond (eqb code 5) (Store.get x) (Store.read x))
+
+abbrev pub parse-rest : ℕ → List ℕ → Parsed Store.AnchoredCall
+parse-rest code = cond (eqb code 6) parse-put (cond (eqb code 8) parse-take (cond (eqb code 9) parse-answer (parse-with-slot (slot-call code))))
+
+-- Each answer: what was read and the bytes after it, or a fault. Then its next place, which of a fault is the list's end.
+abbrev pub retention-answer : List ℕ → RetentionRead → Parsed Retention
+retention-answer s (retention.Value x c) = parsed x (drop (c .at) s)
+retention-answer s (retention.Fault n) = fault n
+
+abbrev pub retention-next : ℕ → RetentionRead → ℕ
+retention-next end (retention.Value x c) = c .at
+retention-next end (retention.Fault n) = end
+
+abbrev pub anchored-answer : List ℕ → AnchoredRead → Parsed Store.AnchoredCall
+anchored-answer s (anchored.Value x c) = parsed (anchored-of s x) (drop (c .at) s)
+anchored-answer s (anchored.Fault n) = fault n
+
+abbrev pub anchored-next : ℕ → AnchoredRead → ℕ
+anchored-next end (anchored.Value x c) = c .at
+anchored-next end (anchored.Fault n) = end
+
+abbrev pub call-answer : List ℕ → CallRead → Parsed Store.Call
+call-answer s (call.Value x c) = parsed (call-of s x) (drop (c .at) s)
+call-answer s (call.Fault n) = fault n
+
+abbrev pub call-next : ℕ → CallRead → ℕ
+call-next end (call.Value x c) = c .at
+call-next end (call.Fault n) = end
+
+-- Where the spans of a call stand: within the list. An answer's members end at the next place.
+abbrev pub anchored-within : List ℕ → ℕ → AnchoredCall → Type 0
+anchored-within s next (Look x) = Unit {0}
+anchored-within s next (Get x) = Unit {0}
+anchored-within s next (Put x v) = Unit {0}
+anchored-within s next (Read x) = Unit {0}
+anchored-within s next Take = Unit {0}
+anchored-within s next (Answer p) = MembersWithin s p next
+anchored-within s next (AnswerFailed p) = p .start + p .count * 52 ≤ length s
+
+abbrev pub call-within : List ℕ → ℕ → ListedCall → Type 0
+call-within s next (Open c d R) = Unit {0}
+call-within s next (Install a) = Unit {0}
+call-within s next (Advance a h k p q) = (p .start + p .count * 20 ≤ length s) × (q .start + q .count * 84 ≤ length s)
+call-within s next (Anchored a c) = anchored-within s next c
+
+abbrev pub anchored-spans : List ℕ → AnchoredRead → Type 0
+anchored-spans s (anchored.Value x c) = anchored-within s (c .at) x
+anchored-spans s (anchored.Fault n) = Unit {0}
+
+abbrev pub call-spans : List ℕ → CallRead → Type 0
+call-spans s (call.Value x c) = call-within s (c .at) x
+call-spans s (call.Fault n) = Unit {0}

@@ -1,0 +1,2 @@
+-- The definitions that the contracts of `reader` cite.
+pub mod Answers
