@@ -3,11 +3,11 @@ use std::hint::black_box;
 use std::time::Instant;
 
 extern "C" {
-    fn poxilme_is_store(s: *const u8, len: usize) -> bool;
-    fn poxilme_look(s: *const u8, len: usize, args: *const u8, args_len: usize) -> u64;
-    fn poxilme_known_look(s: *const u8, len: usize, args: *const u8, args_len: usize) -> u64;
-    fn poxilme_known_get(s: *mut u8, len: usize, args: *const u8, args_len: usize) -> u64;
-    fn poxilme_known_put(s: *mut u8, len: usize, args: *const u8, args_len: usize) -> u64;
+    fn bench_is_store(s: *const u8, len: usize) -> bool;
+    fn bench_look(s: *const u8, len: usize, args: *const u8, args_len: usize) -> u64;
+    fn bench_known_look(s: *const u8, len: usize, args: *const u8, args_len: usize) -> u64;
+    fn bench_known_get(s: *mut u8, len: usize, args: *const u8, args_len: usize) -> u64;
+    fn bench_known_put(s: *mut u8, len: usize, args: *const u8, args_len: usize) -> u64;
 }
 
 const CAPACITY: usize = 4096;
@@ -94,17 +94,17 @@ fn main() {
             let mut s = store(records, depth);
             let len = s.len();
             let (hits, misses) = slots(&s, records);
-            assert!(unsafe { poxilme_is_store(s.as_ptr(), len) });
-            let check = time(20, |_| u64::from(unsafe { poxilme_is_store(s.as_ptr(), len) }));
-            let look = time(2000, |i| unsafe { poxilme_known_look(s.as_ptr(), len, hits[i % 256].as_ptr(), 136) });
-            let miss = time(2000, |i| unsafe { poxilme_known_look(s.as_ptr(), len, misses[i % 256].as_ptr(), 136) });
-            let whole = time(20, |i| unsafe { poxilme_look(s.as_ptr(), len, hits[i % 256].as_ptr(), 136) });
+            assert!(unsafe { bench_is_store(s.as_ptr(), len) });
+            let check = time(20, |_| u64::from(unsafe { bench_is_store(s.as_ptr(), len) }));
+            let look = time(2000, |i| unsafe { bench_known_look(s.as_ptr(), len, hits[i % 256].as_ptr(), 136) });
+            let miss = time(2000, |i| unsafe { bench_known_look(s.as_ptr(), len, misses[i % 256].as_ptr(), 136) });
+            let whole = time(20, |i| unsafe { bench_look(s.as_ptr(), len, hits[i % 256].as_ptr(), 136) });
             let last = u64::from_be_bytes(s[8 * (856 + 13 * (records - 1) + 6)..][..8].try_into().unwrap());
             let top = arguments(last);
-            let get = time(2000, |_| unsafe { poxilme_known_get(s.as_mut_ptr(), len, top.as_ptr(), 136) });
-            let put = time(2000, |_| unsafe { poxilme_known_put(s.as_mut_ptr(), len, top.as_ptr(), 136) });
-            assert_eq!(unsafe { poxilme_known_look(s.as_ptr(), len, top.as_ptr(), 136) }, 101);
-            assert!(unsafe { poxilme_is_store(s.as_ptr(), len) });
+            let get = time(2000, |_| unsafe { bench_known_get(s.as_mut_ptr(), len, top.as_ptr(), 136) });
+            let put = time(2000, |_| unsafe { bench_known_put(s.as_mut_ptr(), len, top.as_ptr(), 136) });
+            assert_eq!(unsafe { bench_known_look(s.as_ptr(), len, top.as_ptr(), 136) }, 101);
+            assert!(unsafe { bench_is_store(s.as_ptr(), len) });
             println!(
                 "| {records} | {depth} | {:.1} µs | {look:.0} ns | {miss:.0} ns | {get:.0} ns | {put:.0} ns | {:.1} µs |",
                 check / 1000.0,

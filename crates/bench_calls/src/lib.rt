@@ -1,4 +1,4 @@
-// The calls for programs in other languages and for the benchmark. A call's arguments are words of eight bytes, the highest byte first:
+// The calls that the benchmark times (bench/); no entry points of the store. A call's arguments are words of eight bytes, the highest byte first:
 // the anchor's number, whether it has a hash, the hash (4), the slot's address (3) and index (4), a value (4).
 use known::Looked;
 use known::PutAnswer;
@@ -65,13 +65,13 @@ fn stored(r: PutAnswer) -> u64 {
 }
 
 #[no_mangle]
-pub extern "C" fn poxilme_is_store(s: &[u8]) -> bool {
+pub extern "C" fn bench_is_store(s: &[u8]) -> bool {
     check_store::is_store(s)
 }
 
 // Arguments that are too short are answered by 9.
 #[no_mangle]
-pub extern "C" fn poxilme_look(s: &[u8], args: &[u8]) -> u64 {
+pub extern "C" fn bench_look(s: &[u8], args: &[u8]) -> u64 {
     if args.len() < 136 {
         return 9;
     }
@@ -79,7 +79,7 @@ pub extern "C" fn poxilme_look(s: &[u8], args: &[u8]) -> u64 {
 }
 
 #[no_mangle]
-pub extern "C" fn poxilme_get(s: &mut [u8], args: &[u8]) -> u64 {
+pub extern "C" fn bench_get(s: &mut [u8], args: &[u8]) -> u64 {
     if args.len() < 136 {
         return 9;
     }
@@ -87,7 +87,7 @@ pub extern "C" fn poxilme_get(s: &mut [u8], args: &[u8]) -> u64 {
 }
 
 #[no_mangle]
-pub extern "C" fn poxilme_put(s: &mut [u8], args: &[u8]) -> u64 {
+pub extern "C" fn bench_put(s: &mut [u8], args: &[u8]) -> u64 {
     if args.len() < 136 {
         return 9;
     }
@@ -96,7 +96,7 @@ pub extern "C" fn poxilme_put(s: &mut [u8], args: &[u8]) -> u64 {
 
 // The same without the check, for bytes that are known to be a store.
 #[no_mangle]
-pub extern "C" fn poxilme_known_look(s: &[u8], args: &[u8]) -> u64
+pub extern "C" fn bench_known_look(s: &[u8], args: &[u8]) -> u64
     requires { ⌜ is-some (decode (now s)) ≡ true ⌝ }
 {
     if args.len() < 136 {
@@ -106,7 +106,7 @@ pub extern "C" fn poxilme_known_look(s: &[u8], args: &[u8]) -> u64
 }
 
 #[no_mangle]
-pub extern "C" fn poxilme_known_get(s: &mut [u8], args: &[u8]) -> u64
+pub extern "C" fn bench_known_get(s: &mut [u8], args: &[u8]) -> u64
     requires { ⌜ is-some (decode (now s)) ≡ true ⌝ }
 {
     if args.len() < 136 {
@@ -116,7 +116,7 @@ pub extern "C" fn poxilme_known_get(s: &mut [u8], args: &[u8]) -> u64
 }
 
 #[no_mangle]
-pub extern "C" fn poxilme_known_put(s: &mut [u8], args: &[u8]) -> u64
+pub extern "C" fn bench_known_put(s: &mut [u8], args: &[u8]) -> u64
     requires { ⌜ is-some (decode (now s)) ≡ true ⌝ }
 {
     if args.len() < 136 {
