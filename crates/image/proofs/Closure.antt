@@ -32,7 +32,7 @@ use Rattle.image.proofs.PendingOk.{woken-members, length-refused}
 use Rattle.image.proofs.ReadsOk.{ReadsOk, totals-ok-facts, reads-ok-none, reads-ok-served, reads-ok-waiting, reads-ok-take, reads-ok-answer}
 
 -- The parts of a well-formed generation but for the number of its records.
-record GenerationOk (cfg : Config) (g : Generation) : Type 0 where
+pub record GenerationOk (cfg : Config) (g : Generation) : Type 0 where
   anchor-fit : anchor-fits (g .anchor) ≡ true
   records-right : TopOk (cfg .retention) (g .anchor .number) (g .base) (g .top)
   some-layer : 0 < length (g .base)
@@ -40,7 +40,7 @@ record GenerationOk (cfg : Config) (g : Generation) : Type 0 where
   reads-right : ReadsOk (g .pending) (g .totals)
 
 -- From the test to its parts, and back.
-generation-parts : (cfg : Config) (g : Generation) → generation-ok cfg g ≡ true → GenerationOk cfg g
+pub generation-parts : (cfg : Config) (g : Generation) → generation-ok cfg g ≡ true → GenerationOk cfg g
 unfolding generation-ok records-ok
 generation-parts cfg g e =
     let n : ℕ = g .anchor .number in
@@ -54,7 +54,7 @@ generation-parts cfg g e =
       reads-right = record { pending-right = k .pending-right; few-pending = k .few-pending; totals-add-up = k .totals-add-up };
     }
 
-generation-ok-parts : (cfg : Config) (g : Generation) → GenerationOk cfg g → ltb (cfg .capacity) (record-count (chain g)) ≡ false → generation-ok cfg g ≡ true
+pub generation-ok-parts : (cfg : Config) (g : Generation) → GenerationOk cfg g → ltb (cfg .capacity) (record-count (chain g)) ≡ false → generation-ok cfg g ≡ true
 unfolding generation-ok records-ok sizes-ok
 generation-ok-parts cfg g k e =
     and-intro _ _ (k .anchor-fit)
@@ -92,7 +92,7 @@ new-ok : (cfg : Config) (a : ReadAnchor) (b : List Layer) (l : Layer) → anchor
 new-ok cfg a b l f p q t = record { anchor-fit = f; records-right = t; some-layer = p; few-layers = q; reads-right = reads-ok-none }
 
 -- An install's.
-fresh-ok : (cfg : Config) (a : ReadAnchor) → anchor-fits a ≡ true → GenerationOk cfg (new-generation a void-base [])
+pub fresh-ok : (cfg : Config) (a : ReadAnchor) → anchor-fits a ≡ true → GenerationOk cfg (new-generation a void-base [])
 fresh-ok cfg a f = new-ok cfg a void-base [] f (omega arith) (omega arith) (top-ok-empty (cfg .retention) (a .number) void-base (void-base-ok (a .number)))
 
 -- A fold leaves at most as many layers as the limit, and a seal adds at most one.
@@ -115,7 +115,7 @@ module _ (cfg : Config) (child : ReadAnchor) (relevance : List Address) (ws : Li
   unfolding cold-advance
   cold-ok l k = seeded-ok void-base (omega arith) (omega arith) (void-base-ok (child .number))
 
-  carry-ok : (p : Generation) → GenerationOk cfg p → 0 < cfg .max-depth → child .number ≡ suc (p .anchor .number) → InstalledOk cfg (carry cfg p child relevance ws .installed)
+  pub carry-ok : (p : Generation) → GenerationOk cfg p → 0 < cfg .max-depth → child .number ≡ suc (p .anchor .number) → InstalledOk cfg (carry cfg p child relevance ws .installed)
   unfolding carry compact-base
   carry-ok p k h e =
       let n : ℕ = p .anchor .number in
@@ -204,7 +204,7 @@ installed-ok-parts cfg none k e = refl
 installed-ok-parts cfg (some g) k e = generation-ok-parts cfg g k e
 
 -- A store's depth limit is at least 1.
-depth-some : (cfg : Config) → config-ok cfg ≡ true → 0 < cfg .max-depth
+pub depth-some : (cfg : Config) → config-ok cfg ≡ true → 0 < cfg .max-depth
 unfolding config-ok
 depth-some cfg e =
     let x : Bool = ltb 0 (cfg .capacity) in

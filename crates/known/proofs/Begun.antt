@@ -50,14 +50,14 @@ none-words n =
     let e : 19 + (832 + 13 * n) ≡ 851 + 13 * n = omega arith in
     ap (λ (l : List ℕ). replicate {A = ℕ} 19 0 ++ l) (padded-tables n) ∙ replicate-append-replicate 19 (832 + 13 * n) 0 ∙ ap (λ (k : ℕ). replicate {A = ℕ} k 0) e
 
-length-config : (cfg : Config) → length (bytes-of (config-words cfg)) ≡ 40
+pub length-config : (cfg : Config) → length (bytes-of (config-words cfg)) ≡ 40
 length-config cfg = length-bytes-of (config-words cfg) ∙ omega (arith, length-retention (cfg .retention))
 
 -- The bytes of the mark and the anchor of a fresh generation.
 abbrev pub anchor-bytes : ReadAnchor → List ℕ
 anchor-bytes a = bytes-of (1 ∷ a .number ∷ hash-words (a .hash))
 
-length-anchor : (a : ReadAnchor) → length (anchor-bytes a) ≡ 56
+pub length-anchor : (a : ReadAnchor) → length (anchor-bytes a) ≡ 56
 length-anchor a = length-bytes-of (1 ∷ a .number ∷ hash-words (a .hash)) ∙ omega (arith, length-hash (a .hash))
 
 -- A store with a fresh generation, and one with none.

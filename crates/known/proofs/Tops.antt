@@ -26,7 +26,7 @@ use Rattle.known.specs.Answers.{topped, Placed}
 use Rattle.known.proofs.Changed.{new-top, top-exact}
 
 -- A part that was lent from place a to the end is back at ys.
-lent-back : (a : ℕ) (s ys : List ℕ) → putMid a (length s - a) s ys ≡ take a s ++ ys
+pub lent-back : (a : ℕ) (s ys : List ℕ) → putMid a (length s - a) s ys ≡ take a s ++ ys
 lent-back a s ys =
     let m : length (drop a s) ≤ length s - a = omega (arith, length-drop a s) in
     ap (λ (x : List ℕ). take a s ++ (ys ++ x)) (drop-of-length-le (drop a s) m) ∙ ap (λ (x : List ℕ). take a s ++ x) (append-nil ys)

@@ -55,7 +55,7 @@ pub enum PutAnswer {
 }
 
 // Sets n bytes from `at` on to 0.
-fn clear(s: &mut [u8], at: usize, n: usize)
+pub fn clear(s: &mut [u8], at: usize, n: usize)
     requires { ⌜ at + n ≤ length (now s) ⌝ }
     ensures { λ _. ⌜ now (s .exit) ≡ placed at (replicate n 0) (now (s .entry)) ⌝ }
 {
@@ -67,7 +67,7 @@ fn clear(s: &mut [u8], at: usize, n: usize)
 }
 
 // Whether the four words at `at` are those of x.
-fn same_u256(s: &[u8], at: usize, x: U256) -> bool
+pub fn same_u256(s: &[u8], at: usize, x: U256) -> bool
     requires { ⌜ at + 32 ≤ length (now s) ⌝ }
     ensures { λ r. ⌜ r ≡ words-eqb (num (part at 8 (now (s .entry))) ∷ num (part (at + 8) 8 (now (s .entry))) ∷ num (part (at + 16) 8 (now (s .entry))) ∷ num (part (at + 24) 8 (now (s .entry))) ∷ []) (u256-words x) ⌝ }
 {
@@ -102,7 +102,7 @@ fn same_anchor(s: &[u8], anchor: ReadAnchor) -> bool
 }
 
 // Writes the installed mark and the anchor.
-fn write_anchor(s: &mut [u8], number: u64, known: u64, hash: U256)
+pub fn write_anchor(s: &mut [u8], number: u64, known: u64, hash: U256)
     requires { ⌜ 96 ≤ length (now s) ⌝ }
     ensures { λ _. ⌜ now (s .exit) ≡ placed 40 (bytes-of (1 ∷ number ∷ known ∷ u256-words hash)) (now (s .entry)) ⌝ }
 {

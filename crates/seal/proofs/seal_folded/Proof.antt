@@ -1,0 +1,141 @@
+-- `seal::seal_folded` meets its contract. Assumes nothing.
+use Prim.Native.Nat.{_≤_}
+use mathlib.Core.Path.{refl}
+use native.Mathlib.Omega.{arith}
+use denote.Ref.{now}
+use borrow.Author.Needs.{needs}
+use Rattle.model.specs.Layers.{record-count}
+use Rattle.image.specs.Lent.{generation-of}
+use Rattle.layers.proofs.Header.{header-room}
+use Rattle.known.proofs.Segments.{known-bytes}
+use Rattle.seal.proofs.Compacted.{length-part, fold-asks, fold-room, fold-total, left-few, report-is, compacted-by}
+use Rattle.seal.proofs.seal_folded.Statement.{statement}
+use Rattle.seal.proofs.seal_folded.Tie as tie
+
+top-start-requires : tie.Need-top-start-requires
+top-start-requires c κs = search needs
+
+top-count-requires : tie.Need-top-count-requires
+top-count-requires c κs = search needs
+
+layers-requires : tie.Need-layers-requires
+layers-requires c κs = search needs
+
+retention-requires : tie.Need-retention-requires
+retention-requires c κs = search needs
+
+installed-number-requires : tie.Need-installed-number-requires
+installed-number-requires c κs = search needs
+
+write-header-requires : tie.Need-write-header-requires
+write-header-requires c κs = search needs
+
+sub-fold : tie.Need-sub-fold
+sub-fold c =
+    let st = c .before .before .before .before .before .before .before .before .before .before .before in
+    omega (arith, header-room (now (st .args .s)) (st .pre .0 .is-store))
+
+part-fold-start : tie.Need-part-fold-start
+part-fold-start c =
+    let st = c .before .before .before .before .before .before .before .before .before .before .before in
+    omega (arith, header-room (now (st .args .s)) (st .pre .0 .is-store))
+
+part-fold-end : tie.Need-part-fold-end
+part-fold-end c = search needs
+
+sub-fold-2 : tie.Need-sub-fold-2
+sub-fold-2 c = search needs
+
+part-fold-start-2 : tie.Need-part-fold-start-2
+part-fold-start-2 c = search needs
+
+part-fold-end-2 : tie.Need-part-fold-end-2
+part-fold-end-2 c = search needs
+
+fold-requires : tie.Need-fold-requires
+fold-requires c κs =
+    let wh = c .before .before .before .before in
+    let nu = wh .before .before in
+    let ts = nu .before .before .before .before in
+    let st = ts .before .before .before in
+    let q = fold-asks (now (st .args .s)) (ts .top-start .result) (st .pre .0) (ts .top-start .ensures) in (
+      q .0,
+      omega (arith, length-part (wh .write-header .last .1 .0), wh .write-header .kept .1 .0, fold-room (now (st .args .s)) (now (st .args .work)) (ts .top-start .result) (st .pre .0) (ts .top-start .ensures) (st .pre .1)),
+      q .1,
+    )
+
+-- The fold leaves no more records than the base has.
+few : (c : tie.After-fold) → let ts = c .before .before .before .before .before .before .before .before .before .before .before in
+    c .fold .result .left ≤ record-count (generation-of (now (ts .before .before .before .args .s)) .base)
+few c =
+    let wh = c .before .before .before .before .before in
+    let nu = wh .before .before in
+    let ts = nu .before .before .before .before in
+    let sk = ts .before .before in
+    let st = sk .before in
+    let a = st .args in
+    left-few (now (a .s)) (nu .before .retention .result) (nu .installed-number .result) (ts .top-start .result) (c .fold .result .left) (c .fold .result .dropped) (known-bytes (now (a .s)) (sk .shared-slice-known .given))
+    (st .pre .0) (nu .before .retention .ensures) (nu .installed-number .ensures) (ts .top-start .ensures) (c .fold .ensures .1) (c .fold .ensures .2)
+
+place-top-requires : tie.Need-place-top-requires
+place-top-requires c κs =
+    let fo = c .before .before .before in
+    let st = fo .before .before .before .before .before .before .before .before .before .before .before .before .before .before in
+    (st .pre .0, few fo, search needs)
+
+add-add-layers : tie.Need-add-add-layers
+add-add-layers c =
+    let fo = c .before .before .before .before .before .before .before in
+    let tc = fo .before .before .before .before .before .before .before .before .before .before in
+    let st = tc .before .before .before .before in
+    omega (arith, fold-total (now (st .args .s)) (fo .fold .result .left) (tc .top-count .result) (st .pre .0) (few fo) (tc .top-count .ensures))
+
+add-layers-requires : tie.Need-add-layers-requires
+add-layers-requires c κs = search needs
+
+same-length : tie.Need-same-length
+same-length c = search needs
+
+returns : tie.Need-returns
+returns c =
+    let al = c .before .before in
+    let pt = al .before .before .before .before in
+    let fo = pt .before .before .before .before in
+    let wh = fo .before .before .before .before .before in
+    let nu = wh .before .before in
+    let tc = nu .before .before .before in
+    let ts = tc .before in
+    let sk = ts .before .before in
+    let st = sk .before in
+    let a = st .args in
+    let b = known-bytes (now (a .s)) (sk .shared-slice-known .given) in
+    record {
+      bytes-are = compacted-by (now (a .s)) (nu .before .retention .result) (nu .installed-number .result) (ts .top-start .result) (fo .fold .result .left) (fo .fold .result .dropped) b
+          (st .pre .0) (nu .before .retention .ensures) (nu .installed-number .ensures) (ts .top-start .ensures) (fo .fold .ensures .1) (fo .fold .ensures .2)
+          (now (a .work)) (a .child) (tc .top-count .result) (tc .top-count .ensures) (wh .write-header .ensures) (fo .fold .ensures .0) refl (pt .place-top .ensures) (al .add-layers .ensures);
+      counts-are = report-is (now (a .s)) (nu .before .retention .result) (nu .installed-number .result) (ts .top-start .result) (fo .fold .result .left) (fo .fold .result .dropped) b
+          (st .pre .0) (nu .before .retention .ensures) (nu .installed-number .ensures) (ts .top-start .ensures) (fo .fold .ensures .1) (fo .fold .ensures .2) (nu .before .before .layers .result) (nu .before .before .layers .ensures);
+    }
+
+pub seal-folded-spec : {M : Type 1} → statement M
+seal-folded-spec =
+    tie.close
+    (tie.spec
+    top-start-requires
+    top-count-requires
+    layers-requires
+    retention-requires
+    installed-number-requires
+    write-header-requires
+    sub-fold
+    part-fold-start
+    part-fold-end
+    sub-fold-2
+    part-fold-start-2
+    part-fold-end-2
+    fold-requires
+    place-top-requires
+    add-add-layers
+    add-layers-requires
+    same-length
+    returns)

@@ -1,0 +1,2 @@
+-- What a store is after the seal of an advance.
+pub mod Sealed
