@@ -33,11 +33,11 @@ use Rattle.image.proofs.ReadsOk.{ReadsOk, totals-ok-facts, reads-ok-non
 
 -- The parts of a well-formed generation but for the number of its records.
 pub record GenerationOk (cfg : Config) (g : Generation) : Type 0 where
-  anchor-fit : anchor-fits (g .anchor) ≡ true
-  records-right : TopOk (cfg .retention) (g .anchor .number) (g .base) (g .top)
-  some-layer : 0 < length (g .base)
-  few-layers : length (g .base) ≤ suc (cfg .max-depth)
-  reads-right : ReadsOk (g .pending) (g .totals)
+  pub anchor-fit : anchor-fits (g .anchor) ≡ true
+  pub records-right : TopOk (cfg .retention) (g .anchor .number) (g .base) (g .top)
+  pub some-layer : 0 < length (g .base)
+  pub few-layers : length (g .base) ≤ suc (cfg .max-depth)
+  pub reads-right : ReadsOk (g .pending) (g .totals)
 
 -- From the test to its parts, and back.
 pub generation-parts : (cfg : Config) (g : Generation) → generation-ok cfg g ≡ true → GenerationOk cfg g
@@ -63,7 +63,7 @@ generation-ok-parts cfg g k e =
     (and-intro _ _ (k .reads-right .pending-right)
     (and-intro _ _ (le-leb _ _ (k .reads-right .few-pending)) (totals-ok-facts (g .pending) (g .totals) (k .reads-right .totals-add-up))))))
 
-number-fits : (a : ReadAnchor) → anchor-fits a ≡ true → fits-64 (a .number) ≡ true
+pub number-fits : (a : ReadAnchor) → anchor-fits a ≡ true → fits-64 (a .number) ≡ true
 unfolding anchor-fits
 number-fits a e = and-left (fits-64 (a .number)) _ e
 

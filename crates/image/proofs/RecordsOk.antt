@@ -221,7 +221,7 @@ module _ {R : Retention} {n : ℕ} {b : List Layer} (l : Layer) (t : TopOk R n b
         let z = content-ok-touch R x (find s l) base-use-with-value (found-ok s) (λ c. find-every (serves-over R n b) s l c (t .uses-served)) e in
         top-ok-insert s (touch n (find s l)) (z .0) (fits-touch n s (find s l) slot-fit number-fits (found-fits s)) (z .1)
 
-    top-ok-apply-write : (x : Value) → u256-fits x ≡ true → (j : Bool) → TopOk R n b (apply-write n (final-write-kind R n j (find s l) (freshest-use s b)) s x l)
+    pub top-ok-apply-write : (x : Value) → u256-fits x ≡ true → (j : Bool) → TopOk R n b (apply-write n (final-write-kind R n j (find s l) (freshest-use s b)) s x l)
     top-ok-apply-write x fx j = go (find s l) refl
       where
         unserved-write : (i : Bool) → TopOk R n b (apply-write n (unserved-kind i) s x l)

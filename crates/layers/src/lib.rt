@@ -136,7 +136,7 @@ fn layer_entry(s: &[u8], k: usize, slot: Slot) -> Entry
 }
 
 // The record of a slot in the top.
-fn top_entry(s: &[u8], slot: Slot) -> Entry
+pub fn top_entry(s: &[u8], slot: Slot) -> Entry
     requires { ⌜ Installed (now s) ⌝ }
     ensures { λ r. ⌜ entry-content r ≡ find slot (generation-of (now (s .entry)) .top) ⌝ }
 {

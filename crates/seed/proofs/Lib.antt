@@ -1,0 +1,5 @@
+-- Entries of lists in bytes, what a write does, a write applied to a store, and the writes of a list.
+pub mod Entries
+pub mod Doing
+pub mod Applying
+pub mod Seeding

@@ -1,0 +1,73 @@
+-- `seed::relevant` meets its contract. Assumes nothing.
+use mathlib.Core.Path.{_≡_, refl, sym, _∙_}
+use mathlib.Core.Bool.{true, false}
+use Prim.Native.Nat.{_+_, _-_, _*_, _/_, _≤_}
+use native.Mathlib.Omega.{arith}
+use lib.ListN.{length, drop}
+use denote.Ref.{now}
+use borrow.Author.Needs.{needs}
+use Rattle.model.specs.Advance.{relevant}
+use Rattle.model.specs.Entries.{addresses-of}
+use Rattle.seed.proofs.Entries.{entry-fits, relevant-at, relevant-end}
+use Rattle.seed.proofs.relevant.Statement.{statement}
+use Rattle.seed.proofs.relevant.Tie as tie
+
+abbrev Inv-loop : tie.InvT-loop
+Inv-loop addresses address n i₀ i = (i ≤ n) × (n ≡ length addresses / 20) × (relevant (drop i (addresses-of addresses)) address ≡ relevant (addresses-of addresses) address)
+
+abbrev μ-loop : tie.MeasureT-loop
+μ-loop addresses address n i₀ i = n - i
+
+loop-holds : tie.Need-loop-holds Inv-loop μ-loop
+loop-holds c = (search needs, refl, refl)
+
+here : (c : tie.In-loop Inv-loop μ-loop) → c .before .loop .i * 20 + 20 ≤ length (now (c .before .before .before .args .addresses))
+here c = entry-fits 20 (c .before .loop .i) (length (now (c .before .before .before .args .addresses))) (omega arith)
+
+mul-same-address : tie.Need-mul-same-address Inv-loop μ-loop
+mul-same-address c = omega (arith, here c)
+
+same-address-requires : tie.Need-same-address-requires Inv-loop μ-loop
+same-address-requires c κs = omega (arith, here c)
+
+returns : tie.Need-returns Inv-loop μ-loop
+returns c =
+    let l = c .before .before .before .loop in
+    let a = c .before .before .before .before .before .args in
+    sym (relevant-at (now (a .addresses)) (a .address) (l .i) true (omega arith) (sym (c .before .same-address .ensures) ∙ c .if1 .taken)) ∙ l .inv .2
+
+add-i : tie.Need-add-i Inv-loop μ-loop
+add-i c = search needs
+
+loop-less : tie.Need-loop-less Inv-loop μ-loop
+loop-less c = search needs
+
+loop-again : tie.Need-loop-again Inv-loop μ-loop
+loop-again c =
+    let l = c .before .before .before .loop in
+    let a = c .before .before .before .before .before .args in (
+      search needs,
+      search needs,
+      sym (relevant-at (now (a .addresses)) (a .address) (l .i) false (omega arith) (sym (c .before .same-address .ensures) ∙ c .if1 .left)) ∙ l .inv .2,
+    )
+
+returns-2 : tie.Need-returns-2 Inv-loop μ-loop
+returns-2 c =
+    let l = c .before .loop in
+    let a = c .before .before .before .args in
+    sym (relevant-end (now (a .addresses)) (a .address) (l .i) (omega arith)) ∙ l .inv .2
+
+pub relevant-spec : {M : Type 1} → statement M
+relevant-spec =
+    tie.close
+    (tie.spec
+    Inv-loop
+    μ-loop
+    loop-holds
+    mul-same-address
+    same-address-requires
+    returns
+    add-i
+    loop-less
+    loop-again
+    returns-2)

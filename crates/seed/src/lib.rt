@@ -1,0 +1,265 @@
+// The writes of an advance, applied to the top of a store.
+use layers::Entry;
+use layers::Use;
+use model::delta_snapshot::Slot;
+use model::storage_memo::Address;
+use model::storage_memo::U256;
+use records::Found;
+ghost use mathlib.Core.Path.{_≡_};
+ghost use mathlib.Core.Bool.{cond};
+ghost use mathlib.Core.Option.{some, none};
+ghost use Prim.Native.Nat.{_+_, _*_, _^_, _≤_, _<_};
+ghost use lib.ListN.{length, drop};
+ghost use Rattle.model.specs.Numbers.{num};
+ghost use Rattle.model.specs.Slots.{address-eqb};
+ghost use Rattle.model.specs.Layers.{find, freshest-use, insert, valued};
+ghost use Rattle.model.specs.Advance.{relevant, unserved-kind, write-kind, final-write-kind};
+ghost use Rattle.model.specs.Entries.{u256-at, address-of, slot-of, addresses-of};
+ghost use Rattle.words.specs.Parts.{part};
+ghost use Rattle.image.specs.Image.{overlay};
+ghost use Rattle.image.specs.Lent.{store-of, generation-of, Installed};
+ghost use Rattle.known.specs.Answers.{topped, Placed};
+ghost use Rattle.seed.specs.Writes.{kind-of, applied-kind, Settled, Wrote, count-one, SeededAs};
+
+// What a write does: sets a served slot, whose last use is kept; sets one that is not served; nothing.
+pub enum WriteKind {
+    Overwrite(u64),
+    New,
+    Skip,
+}
+
+// What applying a write came to: no room for its record, or what it did.
+pub enum Applied {
+    Full,
+    Done(WriteKind),
+}
+
+// How many writes were applied, how many of them overwrote, and how many were skipped.
+pub struct WriteCounts {
+    pub applied: u64,
+    pub overwritten: u64,
+    pub skipped: u64,
+}
+
+// What the writes of a list came to: no room for the records that they leave, or their counts.
+pub enum Seeded {
+    Full,
+    Done(WriteCounts),
+}
+
+// The number of the four bytes at `at`, which four more follow.
+fn read_u32(s: &[u8], at: usize) -> u32
+    requires { ⌜ at + 8 ≤ length (now s) ⌝ }
+    ensures { λ r. ⌜ r ≡ num (part at 4 (now (s .entry))) ⌝ }
+{
+    (words::read_u64(s, at) / 0x1_0000_0000) as u32
+}
+
+// The 32-byte number at `at`.
+fn read_u256(s: &[u8], at: usize) -> U256
+    requires { ⌜ at + 32 ≤ length (now s) ⌝ }
+    ensures { λ r. ⌜ r ≡ u256-at at (now (s .entry)) ⌝ }
+{
+    U256 {
+        w0: words::read_u64(s, at),
+        w1: words::read_u64(s, at + 8),
+        w2: words::read_u64(s, at + 16),
+        w3: words::read_u64(s, at + 24),
+    }
+}
+
+// Whether the address at `at` is the given one.
+fn same_address(addresses: &[u8], at: usize, address: Address) -> bool
+    requires { ⌜ at + 20 ≤ length (now addresses) ⌝ }
+    ensures { λ r. ⌜ r ≡ address-eqb (address-of (drop at (now (addresses .entry)))) address ⌝ }
+{
+    if words::read_u64(addresses, at + 12) != address.w2 {
+        return false;
+    }
+    if words::read_u64(addresses, at + 4) != address.w1 {
+        return false;
+    }
+    read_u32(addresses, at) == address.w0
+}
+
+// Whether an address is on the list.
+pub fn relevant(addresses: &[u8], address: Address) -> bool
+    ensures { λ r. ⌜ r ≡ relevant (addresses-of (now (addresses .entry))) address ⌝ }
+{
+    let n = addresses.len() / 20;
+    let mut i = 0;
+    while i < n {
+        if same_address(addresses, i * 20, address) {
+            return true;
+        }
+        i += 1;
+    }
+    false
+}
+
+// The slot of write i.
+pub fn write_slot_of(writes: &[u8], i: usize) -> Slot
+    requires { ⌜ (i + 1) * 84 ≤ length (now writes) ⌝ }
+    ensures { λ r. ⌜ r ≡ slot-of (drop (i * 84) (now (writes .entry))) ⌝ }
+{
+    let at = i * 84;
+    Slot {
+        address: Address {
+            w0: read_u32(writes, at),
+            w1: words::read_u64(writes, at + 4),
+            w2: words::read_u64(writes, at + 12),
+        },
+        index: read_u256(writes, at + 20),
+    }
+}
+
+// The value of write i.
+pub fn write_value_of(writes: &[u8], i: usize) -> U256
+    requires { ⌜ (i + 1) * 84 ≤ length (now writes) ⌝ }
+    ensures { λ r. ⌜ r ≡ u256-at 52 (drop (i * 84) (now (writes .entry))) ⌝ }
+{
+    read_u256(writes, i * 84 + 52)
+}
+
+// What a write does to a slot that is not served.
+fn unserved(addresses: &[u8], address: Address) -> WriteKind
+    ensures { λ r. ⌜ kind-of r ≡ unserved-kind (relevant (addresses-of (now (addresses .entry))) address) ⌝ }
+{
+    if relevant(addresses, address) {
+        WriteKind::New
+    } else {
+        WriteKind::Skip
+    }
+}
+
+// What a write does to a slot that the top has no value of.
+fn base_kind(s: &[u8], addresses: &[u8], slot: Slot) -> WriteKind
+    requires { ⌜ Installed (now s) ⌝ }
+    ensures { λ r. ⌜ kind-of r ≡ write-kind (store-of (now (s .entry)) .config .retention) (generation-of (now (s .entry)) .anchor .number) (relevant (addresses-of (now (addresses .entry))) (slot .address)) (freshest-use slot (generation-of (now (s .entry)) .base)) ⌝ }
+{
+    let used = layers::freshest_use(s, layers::layers(s), slot);
+    let Use::At(u) = used else {
+        return unserved(addresses, slot.address);
+    };
+    if layers::retention(s).serves(u, layers::installed_number(s)) {
+        return WriteKind::Overwrite(u);
+    }
+    unserved(addresses, slot.address)
+}
+
+// What a write does: a slot that the top has a value of was written earlier, and its use is kept.
+pub fn kind(s: &[u8], addresses: &[u8], slot: Slot) -> WriteKind
+    requires { ⌜ Installed (now s) ⌝ }
+    ensures { λ r. ⌜ kind-of r ≡ final-write-kind (store-of (now (s .entry)) .config .retention) (generation-of (now (s .entry)) .anchor .number) (relevant (addresses-of (now (addresses .entry))) (slot .address)) (find slot (generation-of (now (s .entry)) .top)) (freshest-use slot (generation-of (now (s .entry)) .base)) ⌝ }
+{
+    match layers::top_entry(s, slot) {
+        Entry::Absent => base_kind(s, addresses, slot),
+        Entry::Used(_) => base_kind(s, addresses, slot),
+        Entry::Valued(u, _) => WriteKind::Overwrite(u),
+    }
+}
+
+// Sets a slot's record in the top to a value and a last use.
+pub fn settle_used(s: &mut [u8], place: Found, slot: Slot, value: U256, used: u64)
+    requires { ⌜ Placed place slot (now s) ⌝ }
+    ensures { λ _. ⌜ now (s .exit) ≡ overlay (topped (store-of (now (s .entry)) .config) (generation-of (now (s .entry))) (insert slot (valued used value) (generation-of (now (s .entry)) .top))) (now (s .entry)) ⌝ }
+{
+    let n = layers::top_count(s);
+    let start = layers::top_start(s);
+    let at = 6848 + 104 * start;
+    let total = records::settle(&mut s[at..], n, place, slot, value, used);
+    words::write_u64(s, 104, (start + total) as u64);
+}
+
+// Sets a slot's record in the top to a value and a last use if there is room for it; whether there is.
+fn settle_if_room(s: &mut [u8], slot: Slot, value: U256, used: u64) -> bool
+    requires { ⌜ Installed (now s) ⌝ }
+    ensures { λ r. ⌜ Settled r (now (s .exit)) (insert slot (valued used value) (generation-of (now (s .entry)) .top)) (now (s .entry)) ⌝ }
+{
+    let place = known::top_place(s, slot);
+    if !known::has_room(s, place) {
+        return false;
+    }
+    settle_used(s, place, slot, value, used);
+    true
+}
+
+// The answer of a write, by whether there was room.
+fn answer(room: bool, what: WriteKind) -> Applied
+    ensures { λ r. ⌜ applied-kind r ≡ cond room (some (kind-of what)) none ⌝ }
+{
+    if room {
+        Applied::Done(what)
+    } else {
+        Applied::Full
+    }
+}
+
+// Applies one write to the top. Where there is no room for its record the bytes stay.
+pub fn apply(s: &mut [u8], addresses: &[u8], slot: Slot, value: U256) -> Applied
+    requires { ⌜ Installed (now s) ⌝ }
+    ensures { λ r. ⌜ Wrote r (now (s .exit)) (now (s .entry)) (now (addresses .entry)) slot value ⌝ }
+{
+    let what = kind(s, addresses, slot);
+    match what {
+        WriteKind::Overwrite(u) => {
+            let room = settle_if_room(s, slot, value, u);
+            answer(room, what)
+        }
+        WriteKind::New => {
+            let number = layers::installed_number(s);
+            let room = settle_if_room(s, slot, value, number);
+            answer(room, what)
+        }
+        WriteKind::Skip => Applied::Done(what),
+    }
+}
+
+// The counts with one write more.
+fn counted(counts: WriteCounts, what: WriteKind) -> WriteCounts
+    requires { ⌜ (counts .applied + 1 < 2 ^ 64) × (counts .overwritten + 1 < 2 ^ 64) × (counts .skipped + 1 < 2 ^ 64) ⌝ }
+    ensures { λ r. ⌜ r ≡ count-one (kind-of what) counts ⌝ }
+{
+    match what {
+        WriteKind::Overwrite(_) => WriteCounts {
+            applied: counts.applied + 1,
+            overwritten: counts.overwritten + 1,
+            skipped: counts.skipped,
+        },
+        WriteKind::New => WriteCounts {
+            applied: counts.applied + 1,
+            overwritten: counts.overwritten,
+            skipped: counts.skipped,
+        },
+        WriteKind::Skip => WriteCounts {
+            applied: counts.applied,
+            overwritten: counts.overwritten,
+            skipped: counts.skipped + 1,
+        },
+    }
+}
+
+// Applies the writes of a list in order (`seed_final_writes`). Where there is no room the bytes are left half way.
+pub fn seed_final_writes(s: &mut [u8], addresses: &[u8], writes: &[u8]) -> Seeded
+    requires { ⌜ Installed (now s) ⌝ }
+    ensures { λ r. ⌜ SeededAs r (now (s .exit)) (now (s .entry)) (now (addresses .entry)) (now (writes .entry)) ⌝ }
+{
+    let n = writes.len() / 84;
+    let mut counts = WriteCounts {
+        applied: 0,
+        overwritten: 0,
+        skipped: 0,
+    };
+    let mut i = 0;
+    while i < n {
+        let slot = write_slot_of(writes, i);
+        let value = write_value_of(writes, i);
+        let done = apply(s, addresses, slot, value);
+        let Applied::Done(what) = done else {
+            return Seeded::Full;
+        };
+        counts = counted(counts, what);
+        i += 1;
+    }
+    Seeded::Done(counts)
+}

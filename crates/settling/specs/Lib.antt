@@ -1,0 +1,2 @@
+-- What an answer's values do to the top.
+pub mod Settling
