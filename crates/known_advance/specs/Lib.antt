@@ -1,0 +1,3 @@
+-- What an advance leaves: its output, and its report.
+pub mod Outputs
+pub mod Reports
