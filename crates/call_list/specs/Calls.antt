@@ -8,9 +8,9 @@ use Rattle.model.specs.Refusals.{Lent, LentCall, store-size, work-size, trace}
 use Rattle.call_list.specs.CallList.{CallList, call-list}
 use Rattle.call_list.specs.Listing.{answers-lines, end-line}
 
--- What the program lends: exactly the store bytes for 256 records, and work area and outputs that always suffice.
+-- What the program lends: exactly the store bytes for 256 records, and work area and outputs that always suffice: 65,536 bytes have fewer than 781 writes, and at most 64 slots await an answer.
 abbrev pub program-lent : Lent
-program-lent = record { store-bytes = store-size 256; work-bytes = work-size 256; output-entries = 65536 }
+program-lent = record { store-bytes = store-size 256; work-bytes = work-size 256; output-entries = 1024 }
 
 abbrev pub lent-calls : List Call → List LentCall
 lent-calls cs = map (λ c. record { call = c; lent = program-lent }) cs

@@ -27,7 +27,7 @@ found-by e x o p q = ap (λ (y : Entry). is-some (entry-content y)) (sym q) ∙ 
 
 -- A slot's bytes ----------------------------------------------------------------------------------------
 
-length-slot : (s : Slot) → length (slot-bytes s) ≡ 52
+pub length-slot : (s : Slot) → length (slot-bytes s) ≡ 52
 unfolding slot-bytes
 length-slot s = simp (length-append, length-be)
 

@@ -1,19 +1,21 @@
 -- The report of an advance.
-use Prim.Native.Nat.{ℕ}
+use Prim.Native.Nat.{ℕ, _/_}
 use mathlib.Core.Path.{_≡_}
 use mathlib.Core.Bool.{Bool, cond}
 use mathlib.Core.List.{List, []}
 use mathlib.Core.Option.{some}
 use lib.Dec.{ltb}
 use lib.ListN.{length}
+use Rattle.model.specs.declared.storage_memo.U256.{U256}
+use Rattle.model.specs.declared.storage_memo.ReadAnchor.{ReadAnchor}
 use Rattle.model.specs.declared.delta_snapshot.Retention.{Retention}
 use Rattle.model.specs.declared.read_hub.CarryOutcome.{CarryOutcome}
 use Rattle.model.specs.Layers.{held-count, live-count, record-count}
 use Rattle.model.specs.Advance.{AppliedWrites, CompactionReport, DeltaReport}
 use Rattle.model.specs.Entries.{addresses-of, writes-of}
-use Rattle.model.specs.Store.{Config, Generation, chain, Performed, after-writes, new-generation, Report, opened, anchor-same, anchor-fresh, advanced, value, no-value, stored, waiting, listed, answered}
+use Rattle.model.specs.Store.{Config, Generation, chain, advance, on-store, Performed, after-writes, new-generation, Report, opened, anchor-same, anchor-fresh, advanced, value, no-value, stored, waiting, listed, answered}
 use Rattle.model.specs.Refusals.{Answer, refuse, ok, if-installed}
-use Rattle.image.specs.Image.{overlay, BytesResult}
+use Rattle.image.specs.Image.{overlay, BytesCall, BytesResult}
 use Rattle.image.specs.Lent.{store-of, generation-of, IsStore, Installed}
 use Rattle.image.specs.Output.{output-after}
 use Rattle.counts.specs.declared.Counts.{Counts}
@@ -59,6 +61,10 @@ advanced-by (answered m e w) = No 0
 abbrev pub advanced-of : Answer → Advanced
 advanced-of (refuse n) = No n
 advanced-of (ok r) = advanced-by r
+
+-- An advance of lent bytes, with its addresses and writes, its work area and its output.
+abbrev pub advance-call : ReadAnchor → U256 → ℕ → List ℕ → List ℕ → List ℕ → List ℕ → BytesCall
+advance-call child h k addresses writes work out = record { call = on-store (advance child h k (addresses-of addresses) (writes-of writes)); work-bytes = length work; output-entries = length out / 52 }
 
 -- An advance answered, and left the store's bytes and the output, as a result says.
 pub record AdvancedAs (r : Advanced) (after out-after : List ℕ) (o : BytesResult) (out : List ℕ) : Type 0 where

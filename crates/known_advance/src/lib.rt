@@ -5,6 +5,7 @@ use model::delta_snapshot::Slot;
 use model::read_hub::BalSkip;
 use model::read_hub::CarryOutcome;
 use model::read_hub::Lineage;
+use model::storage_memo::B256;
 use model::storage_memo::ReadAnchor;
 use seal::CompactionCounts;
 use seed::Seeded;
@@ -14,15 +15,17 @@ ghost use Prim.Native.Nat.{suc, _+_, _*_, _/_, _≤_};
 ghost use lib.ListN.{length, take};
 ghost use Rattle.model.specs.Layers.{find, is-some};
 ghost use Rattle.model.specs.Entries.{addresses-of, writes-of, with-slots};
-ghost use Rattle.model.specs.Store.{cold-advance, carry, already-current};
+ghost use Rattle.model.specs.Store as calls;
+ghost use Rattle.model.specs.Store.{cold-advance, carry, already-current, perform};
 ghost use Rattle.model.specs.Refusals.{store-size};
 ghost use Rattle.image.specs.WellFormed.{anchor-fits};
 ghost use mathlib.Core.Bool.{true};
 ghost use Rattle.words.specs.Parts.{placed};
+ghost use Rattle.image.specs.Image.{bytes-step};
 ghost use Rattle.image.specs.Lent.{store-of, generation-of, IsStore, Installed};
 ghost use Rattle.seal.specs.Sealed.{report-of};
 ghost use Rattle.known_advance.specs.Outputs.{PutOne, applied-in};
-ghost use Rattle.known_advance.specs.Reports.{CountedAs, AdvancedAs, Ready, ended, writing, advanced-by};
+ghost use Rattle.known_advance.specs.Reports.{CountedAs, AdvancedAs, Ready, ended, writing, advanced-by, advance-call};
 
 // An advance's report (`DeltaReport`); the slots written are in the output.
 pub struct AdvanceReport {
@@ -208,4 +211,61 @@ fn current(s: &[u8]) -> Advanced
             dropped: 0,
         },
     })
+}
+
+// An advance that no refusal but 23 stops: to the installed anchor, by a carry, or cold.
+fn proceed(
+    s: &mut [u8],
+    child: ReadAnchor,
+    parent_hash: B256,
+    skip: u64,
+    addresses: &[u8],
+    writes: &[u8],
+    work: &mut [u8],
+    out: &mut [u8],
+) -> Advanced
+    requires { ⌜ IsStore (now s) × (anchor-fits child ≡ true) × (store-size (store-of (now s) .config .capacity) ≤ length (now work)) × (length (now writes) / 84 * 52 ≤ length (now out)) ⌝ }
+    ensures { λ r. ⌜ AdvancedAs r (now (s .exit)) (now (out .exit)) (ended (store-of (now (s .entry)) .config) (perform (store-of (now (s .entry)) .config) (store-of (now (s .entry)) .installed) (calls.advance child «parent_hash» skip (addresses-of (now (addresses .entry))) (writes-of (now (writes .entry))))) (now (s .entry))) (now (out .entry)) ⌝ }
+{
+    if known::guard(s, child) == 0 {
+        return current(s);
+    }
+    let lineage = seal::classify_link(s, child, parent_hash);
+    let k = seal::skip_of(skip);
+    if seal::carries(lineage, k) {
+        return carried(s, child, addresses, writes, work, out);
+    }
+    cold(s, child, lineage, k, addresses, writes, work, out)
+}
+
+// An advance of a store known to be right (`apply_prepared`). Refused by 6, 7, 9 and 23.
+pub fn advance(
+    s: &mut [u8],
+    child: ReadAnchor,
+    parent_hash: B256,
+    skip: u64,
+    addresses: &[u8],
+    writes: &[u8],
+    work: &mut [u8],
+    out: &mut [u8],
+) -> Advanced
+    requires { ⌜ IsStore (now s) ⌝ }
+    ensures { λ r. ⌜ AdvancedAs r (now (s .exit)) (now (out .exit)) (bytes-step (now (s .entry)) (advance-call child «parent_hash» skip (now (addresses .entry)) (now (writes .entry)) (now (work .entry)) (now (out .entry)))) (now (out .entry)) ⌝ }
+{
+    let n = writes.len() / 84;
+    if skip != 0 {
+        if n != 0 {
+            return Advanced::No(6);
+        }
+        if 3 < skip {
+            return Advanced::No(7);
+        }
+    }
+    if work.len() < image::HEADER_BYTES + image::RECORD_BYTES * (words::read_u64(s, 8) as usize) {
+        return Advanced::No(9);
+    }
+    if out.len() / 52 < n {
+        return Advanced::No(9);
+    }
+    proceed(s, child, parent_hash, skip, addresses, writes, work, out)
 }

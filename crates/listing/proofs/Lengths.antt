@@ -52,7 +52,7 @@ pub answer-line-length : (m e w : ℕ) → length (report-lines (answered m e w)
 unfolding ascii
 answer-line-length m e w = line-length (ascii "answer") (m ∷ e ∷ w ∷ [])
 
-slot-lines-length : (ss : List Slot) → length (slot-lines ss) ≡ 110 * length ss
+pub slot-lines-length : (ss : List Slot) → length (slot-lines ss) ≡ 110 * length ss
 unfolding slot-lines
 slot-lines-length [] = refl
 slot-lines-length (s ∷ ss) = omega (arith, length-append (line (ascii "slot") (slot-hex s ∷ [])) (slot-lines ss), slot-line-length s, slot-lines-length ss)

@@ -118,12 +118,12 @@ entry-fits w k n h =
     omega arith
 
 module _ {A : Type 0} (rd : List ℕ → A) (w : ℕ) where
-  length-chunks : (n : ℕ) (l : List ℕ) → length (map rd (chunks w n l)) ≡ n
+  pub length-chunks : (n : ℕ) (l : List ℕ) → length (map rd (chunks w n l)) ≡ n
   unfolding chunks
   length-chunks zero l = refl
   length-chunks (suc n) l = ap suc (length-chunks n (drop w l))
 
-  chunk-at : (k n : ℕ) (l : List ℕ) → k < n → drop k (map rd (chunks w n l)) ≡ rd (take w (drop (k * w) l)) ∷ drop (suc k) (map rd (chunks w n l))
+  pub chunk-at : (k n : ℕ) (l : List ℕ) → k < n → drop k (map rd (chunks w n l)) ≡ rd (take w (drop (k * w) l)) ∷ drop (suc k) (map rd (chunks w n l))
   unfolding chunks
   chunk-at k zero l h = absurd (omega arith)
   chunk-at zero (suc n) l h = ap (λ (i : ℕ). rd (take w (drop i l)) ∷ map rd (chunks w n (drop w l))) (sym (zero-mul w))
@@ -133,7 +133,7 @@ module _ {A : Type 0} (rd : List ℕ → A) (w : ℕ) where
       ∙ ap (λ (x : List ℕ). rd (take w x) ∷ drop (suc k) (map rd (chunks w n (drop w l)))) (drop-drop (k * w) w l ∙ ap (λ (i : ℕ). drop i l) e)
 
   -- Nothing is left behind the last entry.
-  none-left : (n k : ℕ) (l : List ℕ) → n ≤ k → drop k (map rd (chunks w n l)) ≡ []
+  pub none-left : (n k : ℕ) (l : List ℕ) → n ≤ k → drop k (map rd (chunks w n l)) ≡ []
   none-left n k l h =
       let e : length (map rd (chunks w n l)) ≤ k = omega (arith, length-chunks n l) in
       drop-of-length-le (map rd (chunks w n l)) e

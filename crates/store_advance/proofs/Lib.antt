@@ -1,0 +1,2 @@
+-- What the check of the bytes says.
+pub mod Checked
