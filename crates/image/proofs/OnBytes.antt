@@ -33,9 +33,9 @@ decode-room b (some st) e = omega (arith, decode-some b st e .long)
 -- Bytes after a call ----------------------------------------------------------------------------------
 
 -- Bytes of a length that read as a state.
-record Holds (b : List ℕ) (n : ℕ) (m : Memory) : Type 0 where
-  as-long : length b ≡ n
-  reads : decode b ≡ m
+pub record Holds (b : List ℕ) (n : ℕ) (m : Memory) : Type 0 where
+  pub as-long : length b ≡ n
+  pub reads : decode b ≡ m
 
 -- A well-formed state laid over bytes that are long enough for it; no state, over bytes that are none.
 laid-over : (b : List ℕ) (m : Memory) → memory-ok m ≡ true → needed m ≤ length b → (m ≡ none → decode b ≡ none) → Holds (overlay m b) (length b) m
@@ -84,7 +84,7 @@ concluded : (b : List ℕ) (m : Memory) (r : Option ℕ) (a : Accepted) → deco
 concluded b m none a e p h k = laid-over b (a .memory) p (h refl) (λ z. e ∙ k z)
 concluded b m (some n) a e p h k = record { as-long = refl; reads = e }
 
-step-holds : Closure → (b : List ℕ) (c : BytesCall) → call-fits (c .call) ≡ true →
+pub step-holds : Closure → (b : List ℕ) (c : BytesCall) → call-fits (c .call) ≡ true →
     let o : StepResult = step (decode b) (lent-call (length b) c) in Holds (bytes-after o b) (length b) (o .memory)
 unfolding step
 step-holds closed b c f =

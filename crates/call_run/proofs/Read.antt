@@ -1,0 +1,39 @@
+-- What a call that was read, and a fault, say of the list. Assumes nothing.
+use Prim.Native.Nat.{ℕ, _≤_, _<_}
+use mathlib.Core.Path.{_≡_, sym, ap, subst, _∙_}
+use mathlib.Core.List.{List}
+use native.Mathlib.Omega.{arith}
+use lib.ListN.{length, drop}
+use Rattle.call_list.specs.CallList.{parsed, fault, parse-call}
+use Rattle.reader.specs.declared.Cursor.{Cursor}
+use Rattle.reader.specs.Answers.{Reading}
+use Rattle.call_reader.specs.declared.ListedCall.{ListedCall}
+use Rattle.call_reader.specs.declared.CallRead.{CallRead}
+use Rattle.call_reader.specs.declared.CallRead.the-variants.{Value, Fault}
+use Rattle.call_reader.specs.Calls.{call-of, call-answer, call-next, call-spans}
+use Rattle.call_steps.specs.Steps.{CallThere}
+
+-- What `read_call` says of its answer.
+abbrev pub ReadCall : List ℕ → ℕ → CallRead → Type 0
+ReadCall list at r =
+    Reading (call-answer list r) (parse-call (drop at list)) at (call-next (length list) r) (length list)
+    × (at < length list → at < call-next (length list) r)
+    × call-spans list r
+
+module _ (list : List ℕ) (at : ℕ) {r : CallRead} (h : ReadCall list at r) where
+  -- A call.
+  module _ {x : ListedCall} {c : Cursor} (e : r ≡ Value x c) where
+    pub value-parse : parsed (call-of list x) (drop (c .at) list) ≡ parse-call (drop at list)
+    value-parse = sym (ap (call-answer list) e) ∙ h .0 .means
+
+    pub value-there : CallThere list x
+    value-there = record { next = c .at; within = subst (λ (y : CallRead). call-spans list y) e (h .2) }
+
+    pub value-forward : at < length list → (at < c .at) × (c .at ≤ length list)
+    value-forward k =
+        let n : call-next (length list) r ≡ c .at = ap (call-next (length list)) e in
+        (omega (arith, h .1 k), omega (arith, h .0 .within))
+
+  -- A fault.
+  pub fault-parse : {n : ℕ} → r ≡ Fault n → fault n ≡ parse-call (drop at list)
+  fault-parse e = sym (ap (call-answer list) e) ∙ h .0 .means

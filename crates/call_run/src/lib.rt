@@ -1,0 +1,127 @@
+// The run of a call list: its calls one after the other, and their lines.
+ghost use mathlib.Core.Path.{_≡_};
+ghost use mathlib.Core.Bool.{false, not, _&&_};
+ghost use Prim.Native.Nat.{_+_, _-_, _*_, _/_, _≤_, _<_};
+ghost use lib.Dec.{leb};
+ghost use lib.ListN.{length};
+ghost use Rattle.call_run.specs.Run.{too-short, RanAs, RunAt, RunOn};
+use call_reader::CallRead;
+use reader::Cursor;
+
+// The bytes that the lines of one call can take: a take of 64 slots.
+pub const CALL_LINES: usize = 7237;
+
+// Where a run is: the next call's place in the list, the next line's in the output, whether the bytes are a store, and whether the list has ended.
+struct Progress {
+    next: usize,
+    at: usize,
+    known: bool,
+    ended: bool,
+}
+
+// A run's answer: 9, or the place of the next call, the bytes written and whether the list has ended.
+pub enum Ran {
+    No(u64),
+    Listed(Cursor, usize, bool),
+}
+
+// One call and its lines.
+fn run_call(
+    list: &[u8],
+    t: Progress,
+    s: &mut [u8],
+    work: &mut [u8],
+    entries: &mut [u8],
+    members: &mut [u8],
+    out: &mut [u8],
+) -> Progress
+    requires { ⌜ RunAt t (now list) (now s) (now out) × (t .ended ≡ false) × (t .at + 7237 ≤ length (now out)) × (length (now list) / 53 * 85 ≤ length (now members)) ⌝ }
+    ensures run { λ r. ⌜ RunOn (length (now (work .entry))) (length (now (entries .entry)) / 52) (now (list .entry)) t (now (s .entry)) (now (out .entry)) r (now (s .exit)) (now (out .exit)) ⌝ }
+    ensures forward { λ r. ⌜ (t .next < r .next) × (r .next ≤ length (now (list .entry))) ⌝ }
+{
+    match call_reader::read_call(list, Cursor { at: t.next }) {
+        CallRead::Value(call, after) => {
+            let a = call_steps::step(list, call, t.known, s, work, entries, members);
+            let at = call_answers::answer_lines(out, t.at, a, entries);
+            Progress {
+                next: after.at,
+                at,
+                known: call_steps::known_after(t.known, a),
+                ended: list.len() <= after.at,
+            }
+        }
+        CallRead::Fault(n) => Progress {
+            next: list.len(),
+            at: listing::refusal_line(out, t.at, n),
+            known: t.known,
+            ended: true,
+        },
+    }
+}
+
+// Whether a run goes on: the list has not ended, and the output has room for the lines of another call.
+fn goes_on(t: Progress, out: &[u8]) -> bool
+    requires { ⌜ t .at ≤ length (now out) ⌝ }
+    ensures { λ r. ⌜ r ≡ (not (t .ended) && leb 7237 (length (now (out .entry)) - t .at)) ⌝ }
+{
+    if t.ended {
+        return false;
+    }
+    CALL_LINES <= out.len() - t.at
+}
+
+// The calls of a list from a place on, one after the other, as long as the output has room for a call's lines.
+fn run_calls(
+    list: &[u8],
+    first: Progress,
+    s: &mut [u8],
+    work: &mut [u8],
+    entries: &mut [u8],
+    members: &mut [u8],
+    out: &mut [u8],
+) -> Progress
+    requires { ⌜ RunAt first (now list) (now s) (now out) × (length (now list) / 53 * 85 ≤ length (now members)) ⌝ }
+    ensures run { λ r. ⌜ RunOn (length (now (work .entry))) (length (now (entries .entry)) / 52) (now (list .entry)) first (now (s .entry)) (now (out .entry)) r (now (s .exit)) (now (out .exit)) ⌝ }
+    ensures forward { λ r. ⌜ (first .at + 7237 ≤ length (now (out .entry)) → r .ended ≡ false → first .next < r .next) ⌝ }
+{
+    let mut t = first;
+    while goes_on(t, out) {
+        t = run_call(list, t, s, work, entries, members, out);
+    }
+    t
+}
+
+// Whether a lent area is too short: the output for one call's lines, or the area for an answer's members.
+fn too_short(list: &[u8], members: &[u8], out: &[u8]) -> bool
+    ensures { λ r. ⌜ r ≡ too-short (now (list .entry)) (now (members .entry)) (now (out .entry)) ⌝ }
+{
+    if out.len() < CALL_LINES {
+        return true;
+    }
+    members.len() < list.len() / 53 * 85
+}
+
+// Runs a call list from a place on, until it ends or the output has no room for another call's lines. The bytes are checked once.
+pub fn run(
+    list: &[u8],
+    from: Cursor,
+    s: &mut [u8],
+    work: &mut [u8],
+    entries: &mut [u8],
+    members: &mut [u8],
+    out: &mut [u8],
+) -> Ran
+    ensures { λ r. ⌜ RanAs r (length (now (work .entry))) (length (now (entries .entry)) / 52) (now (list .entry)) (from .at) (now (members .entry)) (now (s .entry)) (now (out .entry)) (now (s .exit)) (now (out .exit)) ⌝ }
+{
+    if too_short(list, members, out) {
+        return Ran::No(9);
+    }
+    let first = Progress {
+        next: from.at,
+        at: 0,
+        known: check_store::is_store(s),
+        ended: list.len() <= from.at,
+    };
+    let last = run_calls(list, first, s, work, entries, members, out);
+    Ran::Listed(Cursor { at: last.next }, last.at, last.ended)
+}

@@ -1,0 +1,234 @@
+-- What a call comes to on bytes with what is lent to it. Assumes nothing.
+use Prim.Native.Nat.{ℕ, suc, _≤_}
+use mathlib.Core.Path.{_≡_, refl, sym, ap, subst, _∙_}
+use mathlib.Core.Bool.{true, false}
+use mathlib.Core.List.{List, [], _∷_}
+use mathlib.Core.Option.{Option, some, none}
+use native.Mathlib.Omega.{arith}
+use lib.ListN.{length}
+use Rattle.model.specs.declared.storage_memo.ReadAnchor.{ReadAnchor}
+use Rattle.model.specs.declared.storage_memo.U256.{U256}
+use Rattle.model.specs.declared.delta_snapshot.Slot.{Slot}
+use Rattle.model.specs.declared.delta_snapshot.Retention.{Retention}
+use Rattle.model.specs.declared.storage_memo.Address.{Address}
+use Rattle.model.specs.Slots.{anchor-eqb}
+use Rattle.model.specs.Advance.{Write, WriteKind, overwrite, new, skip, AppliedWrites, DeltaReport, relevant, final-write-kind, apply-write, count-write, seed-final-writes, compact-base, seal, void-base, classify-link, skip-of, carries}
+use Rattle.model.specs.Reads.{Member, has-duplicate}
+use Rattle.model.specs.Layers.{Layer, find, is-some, freshest-use}
+use Rattle.model.specs.Entries.{slots-bytes}
+use Rattle.model.specs.Store.{Config, Generation, AnchoredCall, look, get, put, read, take, answer, answer-failed, StoreCall, install, advance, at-anchor, Call, open-store, on-store, Report, advanced, listed, Memory, accept, perform, carry, cold-advance}
+use Rattle.model.specs.Refusals.{Lent, answered-slots, Answer, refuse, ok, refusal, conditions, lent-too-short, output-short-of-queue, conclude, step}
+use Rattle.model.proofs.SlotLaws.{split, not-both}
+use Rattle.image.specs.Image.{decode, BytesResult, lent-call, bytes-step}
+use Rattle.image.specs.Lent.{store-of, IsStore}
+use Rattle.image.specs.Output.{output-after}
+use Rattle.known.specs.declared.Opened.{Opened}
+use Rattle.known.specs.declared.Opened.the-variants as opened
+use Rattle.known.specs.declared.Installed.{Installed}
+use Rattle.known.specs.declared.Installed.the-variants as installed
+use Rattle.known.specs.declared.Looked.{Looked}
+use Rattle.known.specs.declared.Looked.the-variants as looked
+use Rattle.known.specs.declared.PutAnswer.{PutAnswer}
+use Rattle.known.specs.declared.PutAnswer.the-variants as stored
+use Rattle.known.specs.Answers.{opened-answer, installed-answer, looked-answer, put-answer, alone, Stepped}
+use Rattle.known.proofs.Turned.{memory-of, no-store}
+use Rattle.known_reads.specs.declared.ReadAnswer.{ReadAnswer}
+use Rattle.known_reads.specs.declared.ReadAnswer.the-variants as waited
+use Rattle.known_reads.specs.declared.AnswerAnswer.{AnswerAnswer}
+use Rattle.known_reads.specs.declared.AnswerAnswer.the-variants as answered
+use Rattle.known_reads.specs.declared.TakeAnswer.{TakeAnswer}
+use Rattle.known_reads.specs.Answers.{read-answer, answered-answer, taken-of, with-output, Took}
+use Rattle.known_reads.proofs.Turned.{twice, nothing-there}
+use Rattle.known_reads.proofs.Said.{turned-down, none-twice}
+use Rattle.known_advance.specs.declared.Advanced.{Advanced}
+use Rattle.known_advance.specs.Reports.{advanced-of, AdvancedAs}
+use Rattle.call_answers.specs.declared.CallAnswer.{CallAnswer}
+use Rattle.call_answers.specs.declared.CallAnswer.the-variants.{No}
+use Rattle.call_answers.specs.Answers.{call-answer, take-as, advance-as}
+use Rattle.call_steps.specs.Steps.{with-lent, SteppedAs}
+
+-- Bytes that are no store.
+pub no-memory : (m : Memory) → is-some m ≡ false → m ≡ none
+no-memory none e = refl
+no-memory (some st) e = not-both refl e
+
+-- The calls that use neither a work area nor an output.
+pub data Plain : Call → Type 0 where
+  plain-open : (n d : ℕ) (R : Retention) → Plain (open-store n d R)
+  plain-install : (a : ReadAnchor) → Plain (on-store (install a))
+  plain-look : (a : ReadAnchor) (s : Slot) → Plain (on-store (at-anchor a (look s)))
+  plain-get : (a : ReadAnchor) (s : Slot) → Plain (on-store (at-anchor a (get s)))
+  plain-put : (a : ReadAnchor) (s : Slot) (v : U256) → Plain (on-store (at-anchor a (put s v)))
+  plain-read : (a : ReadAnchor) (s : Slot) → Plain (on-store (at-anchor a (read s)))
+  plain-answer : (a : ReadAnchor) (ms : List Member) → Plain (on-store (at-anchor a (answer ms)))
+  plain-failed : (a : ReadAnchor) (ss : List Slot) → Plain (on-store (at-anchor a (answer-failed ss)))
+
+-- What is lent beside the store does not matter to them; to a take the work area does not.
+module _ (b : List ℕ) (w : ℕ) (e : List ℕ) where
+  pub as-alone : {c : Call} → Plain c → bytes-step b (with-lent c w e) ≡ bytes-step b (alone c)
+  unfolding bytes-step step refusal conditions lent-too-short output-short-of-queue
+  as-alone (plain-open n d R) = refl
+  as-alone (plain-install a) = refl
+  as-alone (plain-look a s) = refl
+  as-alone (plain-get a s) = refl
+  as-alone (plain-put a s v) = refl
+  as-alone (plain-read a s) = refl
+  as-alone (plain-answer a ms) = refl
+  as-alone (plain-failed a ss) = refl
+
+  pub as-take : (a : ReadAnchor) → bytes-step b (with-lent (on-store (at-anchor a take)) w e) ≡ bytes-step b (with-output (on-store (at-anchor a take)) e)
+  unfolding bytes-step step refusal conditions lent-too-short output-short-of-queue
+  as-take a = refl
+
+-- Their answers list nothing ---------------------------------------------------------------------------
+
+-- An answer that leaves an output as it is.
+abbrev pub Silent : Answer → Type 0
+Silent a = (e : List ℕ) → output-after a e ≡ e
+
+pub silent-open : (r : Opened) → Silent (opened-answer r)
+unfolding slots-bytes
+silent-open (opened.No n) e = refl
+silent-open opened.Open e = refl
+
+pub silent-install : (r : Installed) → Silent (installed-answer r)
+unfolding slots-bytes
+silent-install (installed.No n) e = refl
+silent-install installed.Same e = refl
+silent-install installed.Fresh e = refl
+
+pub silent-look : (r : Looked) → Silent (looked-answer r)
+unfolding slots-bytes
+silent-look (looked.No n) e = refl
+silent-look looked.Nothing e = refl
+silent-look (looked.Value v) e = refl
+
+pub silent-put : (r : PutAnswer) → Silent (put-answer r)
+unfolding slots-bytes
+silent-put (stored.No n) e = refl
+silent-put stored.Stored e = refl
+
+pub silent-read : (r : ReadAnswer) → Silent (read-answer r)
+unfolding slots-bytes
+silent-read (waited.No n) e = refl
+silent-read (waited.Value v) e = refl
+silent-read (waited.Wait n) e = refl
+
+pub silent-answer : (r : AnswerAnswer) → Silent (answered-answer r)
+unfolding slots-bytes
+silent-answer (answered.No n) e = refl
+silent-answer (answered.Answered m x w) e = refl
+
+-- A call by another name.
+pub named-as : {r : CallAnswer} {after out : List ℕ} (b : List ℕ) (w : ℕ) (e : List ℕ) {g c : Call} → g ≡ c → SteppedAs r after out (bytes-step b (with-lent c w e)) e → SteppedAs r after out (bytes-step b (with-lent g w e)) e
+named-as {r} {after} {out} b w e q s = subst (λ (x : Call). SteppedAs r after out (bytes-step b (with-lent x w e)) e) (sym q) s
+
+-- A call answered as a call of the store alone.
+pub stepped-as : {r : CallAnswer} {a : Answer} {after : List ℕ} (b : List ℕ) (w : ℕ) (e : List ℕ) {g c : Call} → g ≡ c → Plain c → Silent a → r ≡ call-answer a → Stepped a after (bytes-step b (alone c)) → SteppedAs r after e (bytes-step b (with-lent g w e)) e
+stepped-as {r} {a} {after} b w e {g} {c} n p k q s =
+    named-as b w e n
+    (subst (λ (o : BytesResult). SteppedAs r after e o e) (sym (as-alone b w e p))
+    (record { answer-is = q ∙ ap call-answer (s .answer-is); bytes-is = s .bytes-is; entries-is = sym (k e) ∙ ap (λ (x : Answer). output-after x e) (s .answer-is) }))
+
+-- A refusal.
+pub refused-as : (n : ℕ) (b e : List ℕ) (o : BytesResult) → o ≡ record { bytes = b; answer = refuse n } → SteppedAs (No n) b e o e
+refused-as n b e o q = subst (λ (x : BytesResult). SteppedAs (No n) b e x e) (sym q) (record { answer-is = refl; bytes-is = refl; entries-is = refl })
+
+-- 20, and 8 of a store.
+pub said-20 : (b : List ℕ) (c : StoreCall) (w : ℕ) (e : List ℕ) → decode b ≡ none → SteppedAs (No 20) b e (bytes-step b (with-lent (on-store c) w e)) e
+said-20 b c w e d = refused-as 20 b e _ (turned-down b none (with-lent (on-store c) w e) d 20 (no-store _ c))
+
+pub said-8 : (b : List ℕ) (a : ReadAnchor) (k : AnchoredCall) (w : ℕ) (e : List ℕ) → IsStore b → has-duplicate (answered-slots k) ≡ true → SteppedAs (No 8) b e (bytes-step b (with-lent (on-store (at-anchor a k)) w e)) e
+said-8 b a k w e s d = refused-as 8 b e _ (turned-down b (some (store-of b)) (with-lent (on-store (at-anchor a k)) w e) s 8 (twice (store-of b .config) (store-of b .installed) _ a k d))
+
+-- A take and an advance ---------------------------------------------------------------------------------
+
+-- The answers of a take, and of an advance.
+pub data OfTake : Answer → Type 0 where
+  take-refused : (n : ℕ) → OfTake (refuse n)
+  take-listed : (ss : List Slot) → OfTake (ok (listed ss))
+
+pub data OfAdvance : Answer → Type 0 where
+  advance-refused : (n : ℕ) → OfAdvance (refuse n)
+  advance-done : (d : DeltaReport) → OfAdvance (ok (advanced d))
+
+take-same : {a : Answer} → OfTake a → take-as (taken-of a) ≡ call-answer a
+take-same (take-refused n) = refl
+take-same (take-listed ss) = refl
+
+advance-same : {a : Answer} → OfAdvance a → advance-as (advanced-of a) ≡ call-answer a
+advance-same (advance-refused n) = refl
+advance-same (advance-done d) = refl
+
+module _ (l : Lent) (a : ReadAnchor) where
+  take-at : (cfg : Config) (o : Option Generation) → OfTake (conclude (refusal (memory-of cfg o) l (on-store (at-anchor a take))) (memory-of cfg o) (accept (memory-of cfg o) (on-store (at-anchor a take))) .answer)
+  unfolding accept perform
+  take-at cfg none = rw (nothing-there cfg l a take none-twice) (take-refused 21)
+  take-at cfg (some g) = go (refusal (memory-of cfg (some g)) l (on-store (at-anchor a take)))
+    where
+      go : (r : Option ℕ) → OfTake (conclude r (memory-of cfg (some g)) (accept (memory-of cfg (some g)) (on-store (at-anchor a take))) .answer)
+      go none = take-listed _
+      go (some n) = take-refused n
+
+  of-take : (m : Memory) → OfTake (conclude (refusal m l (on-store (at-anchor a take))) m (accept m (on-store (at-anchor a take))) .answer)
+  of-take none = rw (no-store l (at-anchor a take)) (take-refused 20)
+  of-take (some st) = take-at (st .config) (st .installed)
+
+-- The report of an advance of n writes.
+pub data IsAdvanced (n : ℕ) : Report → Type 0 where
+  is-advanced : (d : DeltaReport) → length (d .writes .applied) ≤ n → IsAdvanced n (advanced d)
+
+of-report : {n : ℕ} {r : Report} → IsAdvanced n r → OfAdvance (ok r)
+of-report (is-advanced d h) = advance-done d
+
+-- No more are applied than there are.
+count-few : (k : WriteKind) (s : Slot) (t : AppliedWrites) → length (count-write k s t .applied) ≤ suc (length (t .applied))
+count-few (overwrite u) s t = omega arith
+count-few new s t = omega arith
+count-few skip s t = omega arith
+
+applied-few : (R : Retention) (n : ℕ) (relevance : List Address) (b : List Layer) (ws : List Write) (l : Layer) → length (seed-final-writes R n relevance b ws l .applied-writes .applied) ≤ length ws
+unfolding seed-final-writes
+applied-few R n relevance b [] l = omega arith
+applied-few R n relevance b (w ∷ ws) l =
+    let k : WriteKind = final-write-kind R n (relevant relevance (w .slot .address)) (find (w .slot) l) (freshest-use (w .slot) b) in
+    let t : Layer = apply-write n k (w .slot) (w .value) l in
+    omega (arith, applied-few R n relevance b ws t, count-few k (w .slot) (seed-final-writes R n relevance b ws t .applied-writes))
+
+module _ (child : ReadAnchor) (h : U256) (k : ℕ) (relevance : List Address) (ws : List Write) where
+  pub reported : (cfg : Config) (o : Option Generation) → IsAdvanced (length ws) (perform cfg o (advance child h k relevance ws) .report)
+  unfolding perform carry cold-advance
+  reported cfg none = is-advanced _ (applied-few (cfg .retention) (child .number) relevance void-base ws [])
+  reported cfg (some g) =
+      split (anchor-eqb (g .anchor) child)
+      (λ e. let z : 0 ≤ length ws = omega arith in rw e (is-advanced _ z))
+      (λ e. rw e (split (carries (classify-link (some (g .anchor)) child h) (skip-of k))
+      (λ y. rw y (is-advanced _ (applied-few (cfg .retention) (child .number) relevance (seal (g .top) (compact-base (cfg .retention) (cfg .max-depth) (g .anchor .number) (g .base) .base)) ws [])))
+      (λ y. rw y (is-advanced _ (applied-few (cfg .retention) (child .number) relevance void-base ws [])))))
+
+  of-advance : (l : Lent) (m : Memory) → OfAdvance (conclude (refusal m l (on-store (advance child h k relevance ws))) m (accept m (on-store (advance child h k relevance ws))) .answer)
+  unfolding accept
+  of-advance l none = rw (no-store l (advance child h k relevance ws)) (advance-refused 20)
+  of-advance l (some st) = go (refusal (some st) l (on-store (advance child h k relevance ws)))
+    where
+      go : (r : Option ℕ) → OfAdvance (conclude r (some st) (accept (some st) (on-store (advance child h k relevance ws))) .answer)
+      go none = of-report (reported (st .config) (st .installed))
+      go (some n) = advance-refused n
+
+pub take-answers : (b : List ℕ) (w : ℕ) (e : List ℕ) (a : ReadAnchor) → OfTake (bytes-step b (with-lent (on-store (at-anchor a take)) w e) .answer)
+unfolding bytes-step step
+take-answers b w e a = of-take (lent-call (length b) (with-lent (on-store (at-anchor a take)) w e) .lent) a (decode b)
+
+pub advance-answers : (b : List ℕ) (w : ℕ) (e : List ℕ) (child : ReadAnchor) (h : U256) (k : ℕ) (relevance : List Address) (ws : List Write) → OfAdvance (bytes-step b (with-lent (on-store (advance child h k relevance ws)) w e) .answer)
+unfolding bytes-step step
+advance-answers b w e child h k relevance ws = of-advance child h k relevance ws (lent-call (length b) (with-lent (on-store (advance child h k relevance ws)) w e) .lent) (decode b)
+
+-- A take, and an advance, answered.
+pub took-as : {r : CallAnswer} {t : TakeAnswer} {after out : List ℕ} (b : List ℕ) (w : ℕ) (e : List ℕ) (a : ReadAnchor) → r ≡ take-as t → Took t after out e (bytes-step b (with-output (on-store (at-anchor a take)) e)) → SteppedAs r after out (bytes-step b (with-lent (on-store (at-anchor a take)) w e)) e
+took-as {r} {t} {after} {out} b w e a q s =
+    let h : Took t after out e (bytes-step b (with-lent (on-store (at-anchor a take)) w e)) = subst (λ (o : BytesResult). Took t after out e o) (sym (as-take b w e a)) s in
+    record { answer-is = q ∙ ap take-as (h .answer-is) ∙ take-same (take-answers b w e a); bytes-is = h .bytes-is; entries-is = h .output-is }
+
+pub advanced-as : {r : CallAnswer} {t : Advanced} {after out : List ℕ} (b : List ℕ) (w : ℕ) (e : List ℕ) (child : ReadAnchor) (h : U256) (k : ℕ) (relevance : List Address) (ws : List Write) → r ≡ advance-as t → AdvancedAs t after out (bytes-step b (with-lent (on-store (advance child h k relevance ws)) w e)) e → SteppedAs r after out (bytes-step b (with-lent (on-store (advance child h k relevance ws)) w e)) e
+advanced-as b w e child h k relevance ws q s =
+    record { answer-is = q ∙ ap advance-as (s .answer-is) ∙ advance-same (advance-answers b w e child h k relevance ws); bytes-is = s .bytes-is; entries-is = s .output-is }
