@@ -15,12 +15,9 @@ use Rattle.call_list.specs.CallList.{call-list}
 use Rattle.call_list.specs.Calls.{listing, calls-output}
 use Rattle.call_laws.specs.Runs.{bytes-listing}
 use Rattle.call_laws.proofs.Listing.{listing-on-bytes}
-use Rattle.call_run.specs.Run.{RunTo}
+use Rattle.call_run.specs.Program.{program-bytes, Printed, last-run, next-run, ProgramPrints}
 
--- The program's bytes at first, which are no store: a store's capacity is not 0.
-abbrev pub program-bytes : List ℕ
-program-bytes = replicate 33472 0
-
+-- The program's bytes at first are no store: a store's capacity is not 0.
 no-store : decode program-bytes ≡ none
 unfolding decode words-of num-from read-store image-words words-eqb well-formed config-ok
 no-store = refl
@@ -33,17 +30,11 @@ run-is-calls-output input list f e =
     ∙ ap (λ (m : Memory). listing m (call-list list)) no-store
     ∙ ap (λ (l : List ℕ). listing none (call-list l)) e
 
--- The text of runs, each from where the one before stopped, until the list has ended.
-pub data Printed (w e : ℕ) (list : List ℕ) : ℕ → List ℕ → List ℕ → Type 0 where
-  last-run : {from : ℕ} {b out : List ℕ} {next written : ℕ} {after out-after : List ℕ}
-      → RunTo w e list from b out next written true after out-after → Printed w e list from b (take written out-after)
-  next-run : {from : ℕ} {b out : List ℕ} {next written : ℕ} {after out-after text : List ℕ}
-      → RunTo w e list from b out next written false after out-after → Printed w e list next after text → Printed w e list from b (take written out-after ++ text)
-
+-- The text of runs is the listing.
 pub printed-is : {w e : ℕ} {list : List ℕ} {from : ℕ} {b text : List ℕ} → Printed w e list from b text → text ≡ bytes-listing w e b (call-list (drop from list))
 printed-is (last-run {written = written} {out-after = out-after} r) = sym (r .lines-are ∙ append-nil (take written out-after))
 printed-is (next-run {written = written} {out-after = out-after} r p) = ap (λ (x : List ℕ). take written out-after ++ x) (printed-is p) ∙ sym (r .lines-are)
 
 -- What the program prints.
-pub printed-is-calls-output : (input list text : List ℕ) → Bytes list → list ≡ take 65536 input → Printed (work-size 256) 1024 list 0 program-bytes text → text ≡ calls-output input
+pub printed-is-calls-output : ProgramPrints
 printed-is-calls-output input list text f e p = printed-is p ∙ run-is-calls-output input list f e

@@ -1,2 +1,3 @@
 -- The definitions that the contracts of `call_run` cite.
 pub mod Run
+pub mod Program

@@ -5,6 +5,7 @@ ghost use Prim.Native.Nat.{_+_, _-_, _*_, _/_, _≤_, _<_};
 ghost use lib.Dec.{leb};
 ghost use lib.ListN.{length};
 ghost use Rattle.call_run.specs.Run.{too-short, RanAs, RunAt, RunOn};
+ghost use Rattle.call_run.specs.Program.{ProgramPrints};
 use call_reader::CallRead;
 use reader::Cursor;
 
@@ -125,3 +126,8 @@ pub fn run(
     let last = run_calls(list, first, s, work, entries, members, out);
     Ran::Listed(Cursor { at: last.next }, last.at, last.ended)
 }
+
+// What runs of the program `calls` write is its output by the definition. The contract is what is claimed, so that the gate fails without the proof.
+pub fn program_prints()
+    ensures { λ _. ⌜ ProgramPrints ⌝ }
+{}

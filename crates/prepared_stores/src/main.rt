@@ -59,10 +59,7 @@ fn main() {
         b"the last read: ",
         store_reads::read(&mut s, anchor, slot(1)),
     );
-    print_read(
-        b"one more: ",
-        store_reads::read(&mut s, anchor, slot(1)),
-    );
+    print_read(b"one more: ", store_reads::read(&mut s, anchor, slot(1)));
     print_read(
         b"one more, of another slot: ",
         store_reads::read(&mut s, anchor, slot(2)),
