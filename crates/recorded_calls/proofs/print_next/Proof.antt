@@ -1,0 +1,68 @@
+-- `recorded_calls::print_next` meets its contract: the place after a call is further on, and in the list. Assumes nothing.
+use mathlib.Core.Path.{ap}
+use native.Mathlib.Omega.{arith}
+use lib.ListN.{length}
+use denote.Ref.{now}
+use Rattle.call_reader.specs.Calls.{call-next}
+use borrow.Author.Needs.{needs}
+use Rattle.recorded_calls.proofs.print_next.Statement.{statement}
+use Rattle.recorded_calls.proofs.print_next.Tie as tie
+
+read-call-requires : tie.Need-read-call-requires
+read-call-requires c κs = search needs
+
+enum-known-call : tie.Need-enum-known-call
+enum-known-call c = search needs
+
+print-detail-requires : tie.Need-print-detail-requires
+print-detail-requires c κs =
+    let ru = c .before .before .before .before in
+    let q = ap (call-next (length (now (ru .before .before .before .args .list)))) (c .before .before .call .given .1) in
+    (omega (arith, q, ru .read-call .ensures .0 .forward), omega (arith, q, ru .read-call .ensures .0 .within))
+
+enum-known-n : tie.Need-enum-known-n
+enum-known-n c = search needs
+
+slice-aggregate-say : tie.Need-slice-aggregate-say
+slice-aggregate-say c = search needs
+
+say-requires : tie.Need-say-requires
+say-requires c κs = search needs
+
+field-requires : tie.Need-field-requires
+field-requires c κs = search needs
+
+slice-aggregate-say-2 : tie.Need-slice-aggregate-say-2
+slice-aggregate-say-2 c = search needs
+
+say-requires-2 : tie.Need-say-requires-2
+say-requires-2 c κs = search needs
+
+same-length : tie.Need-same-length
+same-length c = search needs
+
+returns : tie.Need-returns
+returns c =
+    let ru = c .before .before .before .before .before .before .before in
+    let q = ap (call-next (length (now (ru .before .before .before .args .list)))) (c .before .before .before .before .before .call .given .1) in
+    (omega (arith, q, ru .read-call .ensures .1 .0 (ru .before .before .before .pre)), omega (arith, q, ru .read-call .ensures .0 .within))
+
+returns-2 : tie.Need-returns-2
+returns-2 c = search needs
+
+pub print-next-spec : {M : Type 1} → statement M
+print-next-spec =
+    tie.close
+    (tie.spec
+    read-call-requires
+    enum-known-call
+    print-detail-requires
+    enum-known-n
+    slice-aggregate-say
+    say-requires
+    field-requires
+    slice-aggregate-say-2
+    say-requires-2
+    same-length
+    returns
+    returns-2)
