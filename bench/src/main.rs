@@ -2,6 +2,8 @@
 use std::hint::black_box;
 use std::time::Instant;
 
+mod advance;
+
 extern "C" {
     fn bench_is_store(s: *const u8, len: usize) -> bool;
     fn bench_look(s: *const u8, len: usize, args: *const u8, args_len: usize) -> u64;
@@ -57,9 +59,21 @@ fn arguments(last: u64) -> Vec<u8> {
     args
 }
 
+fn median(mut times: Vec<f64>) -> f64 {
+    times.sort_by(f64::total_cmp);
+    times[times.len() / 2]
+}
+
+/// The time of one run, in microseconds.
+fn time_of(run: impl FnOnce()) -> f64 {
+    let start = Instant::now();
+    run();
+    start.elapsed().as_nanos() as f64 / 1000.0
+}
+
 /// The median time of one call, in nanoseconds, over batches.
 fn time(per_batch: usize, mut call: impl FnMut(usize) -> u64) -> f64 {
-    let mut times: Vec<f64> = (0..31)
+    let times = (0..31)
         .map(|_| {
             let start = Instant::now();
             for i in 0..per_batch {
@@ -68,8 +82,7 @@ fn time(per_batch: usize, mut call: impl FnMut(usize) -> u64) -> f64 {
             start.elapsed().as_nanos() as f64 / per_batch as f64
         })
         .collect();
-    times.sort_by(f64::total_cmp);
-    times[times.len() / 2]
+    median(times)
 }
 
 /// The last words of the slots that are stored, and of some that are not, in a mixed order.
@@ -87,6 +100,15 @@ fn slots(s: &[u8], records: usize) -> (Vec<Vec<u8>>, Vec<Vec<u8>>) {
 }
 
 fn main() {
+    if std::env::args().any(|argument| argument == "advance") {
+        return advance::table();
+    }
+    calls();
+    println!();
+    advance::table();
+}
+
+fn calls() {
     println!("| records | depth | check | look, found | look, not found | get | put, slot in the top | look with its check |");
     println!("|---|---|---|---|---|---|---|---|");
     for records in [16, 256, 4096] {

@@ -1,7 +1,6 @@
 -- Laws of awaiting slots in bytes and of lent lists of slots, for this crate's proofs and its callers'.
 pub mod Places
 pub mod Awaits
-pub mod Moves
 pub mod Stored
 pub mod Lists
 pub mod Shifts

@@ -184,37 +184,13 @@ pub fn take_queued(s: &mut [u8], n: usize, out: &mut [u8]) -> usize
     k
 }
 
-// Moves the n bytes `by` places past `at` down to it, the first byte first.
-fn move_down(s: &mut [u8], at: usize, n: usize, by: usize)
-    requires { ⌜ at + by + n ≤ length (now s) ⌝ }
-    ensures { λ _. ⌜ now (s .exit) ≡ placed at (part (at + by) n (now (s .entry))) (now (s .entry)) ⌝ }
-{
-    let mut j = 0;
-    while j < n {
-        s[at + j] = s[at + by + j];
-        j += 1;
-    }
-}
-
-// Sets the n bytes from `at` on to 0.
-fn clear(s: &mut [u8], at: usize, n: usize)
-    requires { ⌜ at + n ≤ length (now s) ⌝ }
-    ensures { λ _. ⌜ now (s .exit) ≡ placed at (replicate n 0) (now (s .entry)) ⌝ }
-{
-    let mut j = 0;
-    while j < n {
-        s[at + j] = 0;
-        j += 1;
-    }
-}
-
 // Takes awaiting slot i of n away: those after it move down, and the last one's bytes are 0.
 fn remove_at(s: &mut [u8], n: usize, i: usize)
     requires { ⌜ (i < n) × (n * 72 ≤ length (now s)) ⌝ }
     ensures { λ _. ⌜ now (s .exit) ≡ take (i * 72) (now (s .entry)) ++ part ((i + 1) * 72) ((n - (i + 1)) * 72) (now (s .entry)) ++ replicate 72 0 ++ drop (n * 72) (now (s .entry)) ⌝ }
 {
-    move_down(s, i * 72, (n - (i + 1)) * 72, 72);
-    clear(s, (n - 1) * 72, 72);
+    words::move_down(s, i * 72, (n - (i + 1)) * 72, 72);
+    words::clear(s, (n - 1) * 72, 72);
 }
 
 // Takes a slot out of the n awaiting ones; the number of awaiting slots then.

@@ -2,6 +2,8 @@
 // the anchor's number, whether it has a hash, the hash (4), the slot's address (3) and index (4), a value (4).
 use known::Looked;
 use known::PutAnswer;
+use known_advance::AdvanceReport;
+use known_advance::Advanced;
 use model::delta_snapshot::Slot;
 use model::storage_memo::Address;
 use model::storage_memo::ReadAnchor;
@@ -12,6 +14,7 @@ ghost use Prim.Native.Nat.{_+_, _≤_};
 ghost use lib.ListN.{length};
 ghost use Rattle.model.specs.Layers.{is-some};
 ghost use Rattle.image.specs.Image.{decode};
+ghost use Rattle.image.specs.Lent.{IsStore};
 
 fn u256_at(args: &[u8], at: usize) -> U256
     requires { ⌜ at + 32 ≤ length (now args) ⌝ }
@@ -123,4 +126,49 @@ pub extern "C" fn bench_known_put(s: &mut [u8], args: &[u8]) -> u64
         return 9;
     }
     stored(known::put(s, anchor_of(args), slot_of(args), u256_at(args, 104)))
+}
+
+// An advance's counts, as words.
+fn write_counts(counts: &mut [u8], report: AdvanceReport)
+    requires { ⌜ 64 ≤ length (now counts) ⌝ }
+{
+    words::write_u64(counts, 0, report.writes.applied);
+    words::write_u64(counts, 8, report.writes.overwritten);
+    words::write_u64(counts, 16, report.writes.skipped);
+    words::write_u64(counts, 24, report.held as u64);
+    words::write_u64(counts, 32, report.live as u64);
+    words::write_u64(counts, 40, report.compaction.merged as u64);
+    words::write_u64(counts, 48, report.compaction.left as u64);
+    words::write_u64(counts, 56, report.compaction.dropped as u64);
+}
+
+// An advance without a skip to the arguments' anchor, whose parent's hash stands where the value does. A refusal's number, or 100.
+#[no_mangle]
+pub extern "C" fn bench_known_advance(
+    s: &mut [u8],
+    args: &[u8],
+    addresses: &[u8],
+    writes: &[u8],
+    work: &mut [u8],
+    out: &mut [u8],
+    counts: &mut [u8],
+) -> u64
+    requires { ⌜ IsStore (now s) ⌝ }
+{
+    if args.len() < 136 {
+        return 9;
+    }
+    if counts.len() < 64 {
+        return 9;
+    }
+    let child = anchor_of(args);
+    let parent_hash = u256_at(args, 104);
+    let done = known_advance::advance(s, child, parent_hash, 0, addresses, writes, work, out);
+    match done {
+        Advanced::No(n) => n,
+        Advanced::Done(report) => {
+            write_counts(counts, report);
+            100
+        }
+    }
 }

@@ -13,7 +13,7 @@ use Rattle.model.specs.declared.delta_snapshot.Slot.{Slot}
 use Rattle.model.specs.Slots.{slot-ltb}
 use Rattle.model.specs.Numbers.{num-from, num, Bytes}
 use Rattle.model.proofs.SlotLaws.{and-true}
-use Rattle.words.proofs.Numbers.{more-fits, num-snoc}
+use Rattle.words.proofs.Numbers.{num-below}
 use Rattle.image.specs.Image.{words-of, read-slot, entries}
 use Rattle.image.proofs.Words.{Fit, fit-nil, fit-cons, length-words-of}
 use Rattle.checking.specs.Checks.{all-zero, all-of, entries-rise-from, entries-rise, rows, slots-of, slots-rise}
@@ -51,21 +51,12 @@ pub drop-words : (m n : ℕ) (s : List ℕ) → drop m (words-of (m + n) s) ≡ 
 drop-words m n s = ap (drop m) (words-add m n s) ∙ drop-at (words-of m s) _ m (length-words-of m s)
 
 -- Words of bytes fit.
-num-below : (l : List ℕ) → Bytes l → (n : ℕ) → n ≤ length l → num (take n l) < 256 ^ n
-unfolding num-from
-num-below l b zero h = omega arith
-num-below l b (suc n) h =
-    let x : ℕ = getD l n 0 in
-    let e : num (take (suc n) l) ≡ num (take n l) * 256 + x = ap num (take-suc l n 0 h) ∙ num-snoc (take n l) x in
-    let k : num (take n l) * 256 + x < 256 ^ (n + 1) = more-fits n (num (take n l)) x (num-below l b n (omega arith)) (b n) in
-    rw e (rw add-one at k)
-
 pub fit-words : (n : ℕ) (b : List ℕ) → Bytes b → 8 * n ≤ length b → Fit (words-of n b)
 unfolding words-of
 fit-words zero b f h = fit-nil
 fit-words (suc n) b f h =
     let k : length (drop 8 b) ≡ length b - 8 = length-drop 8 b in
-    let x : num (take 8 b) < 2 ^ 64 = num-below b f 8 (omega arith) in
+    let x : num (take 8 b) < 2 ^ 64 = num-below 0 8 b f (omega arith) in
     fit-cons x (fit-words n (drop 8 b) (λ j. rw getD-drop (f (8 + j))) (omega arith))
 
 -- Zeros -----------------------------------------------------------------------------------------------

@@ -14,18 +14,10 @@ use Rattle.model.specs.Slots.{address-words, words-eqb, address-eqb}
 use Rattle.model.specs.Advance.{relevant}
 use Rattle.model.proofs.SlotLaws.{words-eqb-true}
 use Rattle.words.specs.Parts.{part}
-use Rattle.words.proofs.Numbers.{num-more, more-fits, num-join}
+use Rattle.words.proofs.Numbers.{num-below, num-join}
 use Rattle.final_writes.specs.FinalWrites.{admits-from}
 use Rattle.final_writes.specs.Lent.{entries, word, read-address, addresses-in}
 use Rattle.final_writes.proofs.Entries.{entry-at, word-at, none-left}
-
-num-below : (at k : ℕ) (s : List ℕ) → Bytes s → at + k ≤ length s → num (part at k s) < 256 ^ k
-unfolding num-from
-num-below at zero s f h = omega arith
-num-below at (suc k) s f h =
-    let e : num (part at k s) * 256 + getD s (at + k) 0 ≡ num (part at (k + 1) s) = num-more at k (num (part at k s)) s (omega arith) refl in
-    let m : num (part at k s) * 256 + getD s (at + k) 0 < 256 ^ (k + 1) = more-fits k (num (part at k s)) (getD s (at + k) 0) (num-below at k s f (omega arith)) (f (at + k)) in
-    subst (λ (n : ℕ). num (part at n s) < 256 ^ n) (add-one k) (subst (λ (x : ℕ). x < 256 ^ (k + 1)) e m)
 
 -- The first eight bytes, the eight from the fourth on, and the first four: of the address at a place, two of these give the third.
 record Words (i : ℕ) (a : List ℕ) : Type 0 where

@@ -19,14 +19,6 @@ use Rattle.words.specs.Parts.{part}
 use Rattle.final_writes.specs.FinalWrites.{sum, counts-differ}
 use Rattle.final_writes.specs.Lent.{entries, all-entries, word, read-address, read-u256, read-account, read-slot, read-change, accounts-in, slots-in, changes-in, reads-in, lent-lists, address-bytes, u256-bytes, read-bytes, write-bytes}
 
--- An entry of w bytes lies within the bytes that hold it.
-pub entry-fits : (w k n : ℕ) → k < n / w → k * w + w ≤ n
-entry-fits w k n h =
-    let p : suc k * w ≤ n / w * w = mul-le-mul-right w h in
-    let q : n / w * w ≤ n = div-mul-le-self n w in
-    let e : suc k * w ≡ k * w + w = suc-mul k w in
-    omega arith
-
 module _ {A : Type 0} (rd : List ℕ → A) (w : ℕ) where
   pub length-entries : (n : ℕ) (l : List ℕ) → length (entries rd w n l) ≡ n
   unfolding entries

@@ -20,7 +20,8 @@ use Rattle.final_writes.specs.declared.Found.the-variants.{At, Nothing}
 use Rattle.final_writes.specs.FinalWrites.{StorageChange, SlotChanges, LentSlot, sum, group-slots, final-change, add-write, post-states}
 use Rattle.final_writes.specs.Lent.{entries, read-u256, read-slot, read-change, slots-in, changes-in, write-bytes}
 use Rattle.final_writes.specs.Walking.{fill, slots-left, ChangesLeft, SlotsSeeded, FinalIs, found-value}
-use Rattle.final_writes.proofs.Entries.{entry-fits, entry-at}
+use Rattle.words.proofs.Places.{entry-fits}
+use Rattle.final_writes.proofs.Entries.{entry-at}
 use Rattle.final_writes.proofs.Filling.{fill-more}
 
 -- The last of some entries.

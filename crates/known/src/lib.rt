@@ -54,18 +54,6 @@ pub enum PutAnswer {
     Stored,
 }
 
-// Sets n bytes from `at` on to 0.
-pub fn clear(s: &mut [u8], at: usize, n: usize)
-    requires { ⌜ at + n ≤ length (now s) ⌝ }
-    ensures { λ _. ⌜ now (s .exit) ≡ placed at (replicate n 0) (now (s .entry)) ⌝ }
-{
-    let mut j = 0;
-    while j < n {
-        s[at + j] = 0;
-        j += 1;
-    }
-}
-
 // Whether the four words at `at` are those of x.
 pub fn same_u256(s: &[u8], at: usize, x: U256) -> bool
     requires { ⌜ at + 32 ≤ length (now s) ⌝ }
@@ -140,7 +128,7 @@ fn start(s: &mut [u8], capacity: u64, max_depth: u64, retention: Retention)
     ensures { λ _. ⌜ now (s .exit) ≡ overlay (empty (config-of capacity «max_depth» retention)) (now (s .entry)) ⌝ }
 {
     let n = capacity as usize;
-    clear(s, 0, 6848 + 104 * n);
+    words::clear(s, 0, 6848 + 104 * n);
     let depth = depth_limit(max_depth);
     match retention {
         Retention::Unbounded => write_config(s, capacity, depth, 0, 0),
@@ -154,7 +142,7 @@ fn begin(s: &mut [u8], anchor: ReadAnchor)
     ensures { λ _. ⌜ now (s .exit) ≡ overlay (begun (store-of (now (s .entry)) .config) anchor) (now (s .entry)) ⌝ }
 {
     let n = words::read_u64(s, 8) as usize;
-    clear(s, 40, 6808 + 104 * n);
+    words::clear(s, 40, 6808 + 104 * n);
     let hash = anchor.hash;
     match hash {
         BlockHash::Unknown => write_anchor(

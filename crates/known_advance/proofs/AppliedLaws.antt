@@ -4,12 +4,15 @@ use mathlib.Core.Path.{_≡_, refl, sym, ap, ap₂, subst, _∙_}
 use mathlib.Core.Bool.{Bool, true, false, cond, true≢false}
 use mathlib.Core.List.{List, [], _∷_}
 use mathlib.Core.Option.{Option, some, none}
+use native.Mathlib.Omega.{arith}
+use lib.ListN.{length}
 use Rattle.model.specs.declared.delta_snapshot.Slot.{Slot}
 use Rattle.model.specs.declared.delta_snapshot.Retention.{Retention}
 use Rattle.model.specs.declared.storage_memo.Address.{Address}
 use Rattle.model.specs.Slots.{Value, LastUse, slot-eqb}
 use Rattle.model.specs.Layers.{Content, use-only, valued, Layer, find, insert, is-some, freshest-use}
 use Rattle.model.specs.Advance.{Write, WriteKind, overwrite, new, skip, relevant, write-kind, final-write-kind, apply-write, count-write, SeededTop, seed-final-writes}
+use Rattle.model.specs.Entries.{slots-bytes, with-slots}
 use Rattle.model.proofs.SlotLaws.{split, not-both, slot-eqb-true, slot-eqb-refl}
 use Rattle.model.proofs.LayerLaws.{find-insert}
 use Rattle.known_advance.specs.Outputs.{applied-in}
@@ -123,3 +126,21 @@ module _ (R : Retention) (n : ℕ) (relevance : List Address) (b : List Layer) w
   -- On an empty top.
   pub applied-is : (ws : List Write) → run ws [] .applied-writes .applied ≡ applied-in (run ws [] .top) ws
   applied-is ws = applied-plain ws [] empty-plain
+
+  -- Where no write is applied the top stays.
+  one-none : (ws : List Write) (s : Slot) (v : Value) (l : Layer) (k : WriteKind) → ((m : Layer) → length (run ws m .applied-writes .applied) ≡ 0 → run ws m .top ≡ m)
+      → length (count-write k s (run ws (apply-write n k s v l) .applied-writes) .applied) ≡ 0 → run ws (apply-write n k s v l) .top ≡ l
+  one-none ws s v l (overwrite u) f h = absurd (omega arith)
+  one-none ws s v l new f h = absurd (omega arith)
+  one-none ws s v l skip f h = f l h
+
+  pub none-applied : (ws : List Write) (l : Layer) → length (run ws l .applied-writes .applied) ≡ 0 → run ws l .top ≡ l
+  unfolding seed-final-writes
+  none-applied [] l h = refl
+  none-applied (w ∷ ws) l h = one-none ws (w .slot) (w .value) l (kind-on l (w .slot)) (λ m g. none-applied ws m g) h
+
+-- The output of no slots.
+pub no-output : (ss : List Slot) (out : List ℕ) → length ss ≡ 0 → out ≡ with-slots ss out
+unfolding slots-bytes
+no-output [] out h = refl
+no-output (s ∷ ss) out h = absurd (omega arith)

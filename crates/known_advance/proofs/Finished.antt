@@ -30,8 +30,8 @@ use Rattle.seed.specs.declared.Seeded.the-variants.{Full as No-room, Done as Co
 use Rattle.seed.specs.Writes.{has-room-for, seeded-in, SeededTo, SeededAs}
 use Rattle.known_advance.specs.declared.Advanced.the-variants.{No, Done}
 use Rattle.known_advance.specs.Outputs.{applied-in}
-use Rattle.known_advance.specs.Reports.{CountedAs, counts-of-writes, AdvancedAs, too-many, ended, writing, Ready}
-use Rattle.known_advance.proofs.AppliedLaws.{applied-is}
+use Rattle.known_advance.specs.Reports.{CountedAs, CountsBefore, counts-of-writes, AdvancedAs, too-many, ended, writing, Ready}
+use Rattle.known_advance.proofs.AppliedLaws.{applied-is, none-applied}
 
 -- What the answer of the writes says.
 pub seeded-full : (r : Seeded) (after b addresses writes : List ℕ) → SeededAs r after b addresses writes → r ≡ No-room → has-room-for (seeded-in b (addresses-of addresses) (writes-of writes) .top) b ≡ false
@@ -110,6 +110,20 @@ module _ (s w addresses writes out : List ℕ) (outcome : CarryOutcome) (c : Com
         let ws = writes-of writes in
         subst (λ (l : Layer). seed-final-writes R n (addresses-of addresses) base ws l .applied-writes .applied ≡ applied-in (seed-final-writes R n (addresses-of addresses) base ws l .top) ws)
         (sym (ap (λ (g : Generation). g .top) (h .generation-is))) (applied-is R n (addresses-of addresses) base ws)
+
+    -- The counts of the store begun are those of the store with the writes if none was applied.
+    still : (cc : Counts) → CountedAs cc (store-of w .config .retention) (generation-of w) → counts .applied ≡ 0 → CountedAs cc (store-of w' .config .retention) (generation-of w')
+    still cc k e =
+        let top : z .top ≡ generation-of w .top =
+        none-applied (store-of w .config .retention) (generation-of w .anchor .number) (addresses-of addresses) base (writes-of writes) (generation-of w .top) (sym (t .counts-are .applied-is) ∙ e) in
+        let g : generation-of w' ≡ generation-of w = t .generation-is ∙ ap (λ (x : Layer). with-top (generation-of w) x) top in
+        subst (λ (x : Config). CountedAs cc (x .retention) (generation-of w')) (sym (t .config-is)) (subst (λ (y : Generation). CountedAs cc (store-of w .config .retention) y) (sym g) k)
+
+    pub counts-before : (cc : Counts) → CountedAs cc (store-of w .config .retention) (generation-of w) → CountsBefore (counts .applied) cc w' writes
+    counts-before cc k = record {
+      applied-is = t .counts-are .applied-is ∙ ap length (applied ∙ ap (λ (g : Generation). applied-in (g .top) (writes-of writes)) (sym new-is));
+      counts-are = still cc k;
+    }
 
     pub finish-done : (cap : ℕ) (s' out' : List ℕ) (cc : Counts) → cap ≡ num (part 8 8 s) → s' ≡ placed 0 (take (6848 + 104 * cap) w') s → out' ≡ with-slots (applied-in (generation-of w' .top) (writes-of writes)) out
         → CountedAs cc (store-of w' .config .retention) (generation-of w')

@@ -22,6 +22,7 @@ use Rattle.counts.specs.declared.Counts.{Counts}
 use Rattle.seal.specs.declared.CompactionCounts.{CompactionCounts}
 use Rattle.seed.specs.declared.WriteCounts.{WriteCounts}
 use Rattle.seed.specs.Writes.{seeded-in}
+use Rattle.known_advance.specs.Outputs.{applied-in}
 use Rattle.known_advance.specs.declared.AdvanceReport.{AdvanceReport}
 use Rattle.known_advance.specs.declared.Advanced.{Advanced}
 use Rattle.known_advance.specs.declared.Advanced.the-variants.{No, Done}
@@ -30,6 +31,11 @@ use Rattle.known_advance.specs.declared.Advanced.the-variants.{No, Done}
 pub record CountedAs (c : Counts) (R : Retention) (g : Generation) : Type 0 where
   pub held-is : c .held ≡ held-count (chain g)
   pub live-is : c .live ≡ live-count R (g .anchor .number) (chain g)
+
+-- How many writes of a list were applied to a store, and, where none was, its counts.
+pub record CountsBefore (applied : ℕ) (c : Counts) (b writes : List ℕ) : Type 0 where
+  pub applied-is : applied ≡ length (applied-in (generation-of b .top) (writes-of writes))
+  pub counts-are : applied ≡ 0 → CountedAs c (store-of b .config .retention) (generation-of b)
 
 -- Answers -----------------------------------------------------------------------------------------------
 

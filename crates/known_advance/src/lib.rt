@@ -25,7 +25,7 @@ ghost use Rattle.image.specs.Image.{bytes-step};
 ghost use Rattle.image.specs.Lent.{store-of, generation-of, IsStore, Installed};
 ghost use Rattle.seal.specs.Sealed.{report-of};
 ghost use Rattle.known_advance.specs.Outputs.{PutOne, applied-in};
-ghost use Rattle.known_advance.specs.Reports.{CountedAs, AdvancedAs, Ready, ended, writing, advanced-by, advance-call};
+ghost use Rattle.known_advance.specs.Reports.{CountedAs, CountsBefore, AdvancedAs, Ready, ended, writing, advanced-by, advance-call};
 
 // An advance's report (`DeltaReport`); the slots written are in the output.
 pub struct AdvanceReport {
@@ -103,25 +103,38 @@ pub fn write_outputs(work: &[u8], writes: &[u8], out: &mut [u8]) -> usize
     k
 }
 
-// The writes of an advance over the store begun in the work area, which then becomes the store.
+// Puts the slots of the applied writes to the output, and counts; `before` are the counts without a write.
+fn count_after(work: &[u8], writes: &[u8], out: &mut [u8], applied: u64, before: Counts) -> Counts
+    requires { ⌜ Installed (now work) × (length (now writes) / 84 * 52 ≤ length (now out)) ⌝ }
+    requires { ⌜ CountsBefore applied before (now work) (now writes) ⌝ }
+    ensures { λ r. ⌜ (now (out .exit) ≡ with-slots (applied-in (generation-of (now (work .entry)) .top) (writes-of (now (writes .entry)))) (now (out .entry))) × CountedAs r (store-of (now (work .entry)) .config .retention) (generation-of (now (work .entry))) ⌝ }
+{
+    if applied == 0 {
+        return before;
+    }
+    write_outputs(work, writes, out);
+    counts_of(work)
+}
+
+// The writes of an advance over the store begun in the work area, which then becomes the store; `before` are its counts.
 fn finish(
     s: &mut [u8],
     addresses: &[u8],
     writes: &[u8],
     work: &mut [u8],
     out: &mut [u8],
+    before: Counts,
     outcome: CarryOutcome,
     compaction: CompactionCounts,
 ) -> Advanced
-    requires { ⌜ Ready (now work) (now s) × (length (now writes) / 84 * 52 ≤ length (now out)) ⌝ }
+    requires { ⌜ Ready (now work) (now s) × (length (now writes) / 84 * 52 ≤ length (now out)) × CountedAs before (store-of (now work) .config .retention) (generation-of (now work)) ⌝ }
     ensures { λ r. ⌜ AdvancedAs r (now (s .exit)) (now (out .exit)) (ended (store-of (now (s .entry)) .config) (writing (now (work .entry)) (now (addresses .entry)) (now (writes .entry)) outcome (report-of compaction)) (now (s .entry))) (now (out .entry)) ⌝ }
 {
     let seeded = seed::seed_final_writes(work, addresses, writes);
     let Seeded::Done(applied) = seeded else {
         return Advanced::No(23);
     };
-    write_outputs(work, writes, out);
-    let counted = counts_of(work);
+    let counted = count_after(work, writes, out, applied.applied, before);
     let n = image::HEADER_BYTES + image::RECORD_BYTES * (words::read_u64(s, 8) as usize);
     copy_back(s, work, n);
     Advanced::Done(AdvanceReport {
@@ -148,6 +161,7 @@ fn cold(
     ensures { λ r. ⌜ AdvancedAs r (now (s .exit)) (now (out .exit)) (ended (store-of (now (s .entry)) .config) (cold-advance (store-of (now (s .entry)) .config) child lineage skip (addresses-of (now (addresses .entry))) (writes-of (now (writes .entry)))) (now (s .entry))) (now (out .entry)) ⌝ }
 {
     seal::begin_cold(s, work, child);
+    let counted = counts_of(work);
     let none = CompactionCounts {
         merged: 0,
         left: 0,
@@ -159,6 +173,7 @@ fn cold(
         writes,
         work,
         out,
+        counted,
         CarryOutcome::Cold(lineage, skip),
         none,
     )
@@ -185,6 +200,7 @@ fn carried(
         writes,
         work,
         out,
+        counted,
         CarryOutcome::Carried(held),
         compaction,
     )

@@ -76,31 +76,6 @@ pub fn skip_of(k: u64) -> BalSkip
     BalSkip::Decode
 }
 
-// The number of a lineage.
-pub fn lineage_number(l: Lineage) -> u64
-    ensures { λ r. ⌜ r ≡ advance.lineage-number l ⌝ }
-{
-    match l {
-        Lineage::Linked => 0,
-        Lineage::NoParent => 1,
-        Lineage::NotConsecutive => 2,
-        Lineage::ParentHashUnknown => 3,
-        Lineage::ParentHashMismatch => 4,
-    }
-}
-
-// The number of a skip.
-pub fn skip_number(k: BalSkip) -> u64
-    ensures { λ r. ⌜ r ≡ advance.skip-number k ⌝ }
-{
-    match k {
-        BalSkip::Decoded => 0,
-        BalSkip::NoAnchorHash => 1,
-        BalSkip::Rpc => 2,
-        BalSkip::Decode => 3,
-    }
-}
-
 // Whether an advance carries: linked, and its list read.
 pub fn carries(l: Lineage, k: BalSkip) -> bool
     ensures { λ r. ⌜ r ≡ advance.carries l k ⌝ }
@@ -140,7 +115,7 @@ fn write_header(s: &[u8], work: &mut [u8], child: ReadAnchor)
     requires { ⌜ IsStore (now s) × (6848 ≤ length (now work)) ⌝ }
     ensures { λ _. ⌜ now (work .exit) ≡ bytes-of (header-words (store-of (now (s .entry)) .config) child 0 0 []) ++ drop 6848 (now (work .entry)) ⌝ }
 {
-    known::clear(work, 0, image::HEADER_BYTES);
+    words::clear(work, 0, image::HEADER_BYTES);
     words::place(work, 0, &s[0..40]);
     let hash = child.hash;
     match hash {
@@ -176,7 +151,7 @@ pub fn begin_cold(s: &[u8], work: &mut [u8], child: ReadAnchor)
 {
     let capacity = words::read_u64(s, 8) as usize;
     write_header(s, work, child);
-    known::clear(work, image::HEADER_BYTES, image::RECORD_BYTES * capacity);
+    words::clear(work, image::HEADER_BYTES, image::RECORD_BYTES * capacity);
 }
 
 // The seal without a fold: the layers stay, and the top becomes one.
@@ -220,7 +195,7 @@ fn place_top(s: &[u8], work: &mut [u8], left: usize)
     let n = layers::top_count(s);
     let at = image::HEADER_BYTES + image::RECORD_BYTES * left;
     words::place(work, at, &s[start..start + image::RECORD_BYTES * n]);
-    known::clear(
+    words::clear(
         work,
         at + image::RECORD_BYTES * n,
         image::RECORD_BYTES * (capacity - (left + n)),

@@ -19,17 +19,9 @@ use Rattle.model.specs.Entries.{number-at, u256-at, address-of, slot-of, write-
 use Rattle.model.proofs.SlotLaws.{and-true, and-intro}
 use Rattle.image.specs.WellFormed.{fits-64, u256-fits, slot-fits}
 use Rattle.words.specs.Parts.{part}
-use Rattle.words.proofs.Numbers.{num-more, more-fits, num-join}
+use Rattle.words.proofs.Numbers.{num-below, num-join}
 
 -- Numbers at places -----------------------------------------------------------------------------------
-
-num-below : (at k : ℕ) (s : List ℕ) → Bytes s → at + k ≤ length s → num (part at k s) < 256 ^ k
-unfolding num-from
-num-below at zero s f h = omega arith
-num-below at (suc k) s f h =
-    let e : num (part at k s) * 256 + getD s (at + k) 0 ≡ num (part at (k + 1) s) = num-more at k (num (part at k s)) s (omega arith) refl in
-    let m : num (part at k s) * 256 + getD s (at + k) 0 < 256 ^ (k + 1) = more-fits k (num (part at k s)) (getD s (at + k) 0) (num-below at k s f (omega arith)) (f (at + k)) in
-    subst (λ (n : ℕ). num (part at n s) < 256 ^ n) (add-one k) (subst (λ (x : ℕ). x < 256 ^ (k + 1)) e m)
 
 -- The higher four of eight bytes.
 pub higher-half : (at x : ℕ) (s : List ℕ) → Bytes s → at + 8 ≤ length s → x ≡ num (part at 8 s) → x / 0x100000000 ≡ num (part at 4 s)
@@ -57,6 +49,12 @@ slot-in at w0 w1 w2 x s p q r e =
     let r' : w2 ≡ number-at 12 8 (drop at s) = r ∙ number-in 12 at 8 s in
     let e' : x ≡ u256-at 20 (drop at s) = e ∙ u256-in 20 at s in
     λ i. record { address = record { w0 = p i; w1 = q' i; w2 = r' i }; index = e' i }
+
+pub address-read : (at w0 w1 w2 : ℕ) (s : List ℕ) → w0 ≡ num (part at 4 s) → w1 ≡ num (part (at + 4) 8 s) → w2 ≡ num (part (at + 12) 8 s) → record { w0 = w0; w1 = w1; w2 = w2 } ≡ address-of (drop at s)
+address-read at w0 w1 w2 s p q r =
+    let q' : w1 ≡ number-at 4 8 (drop at s) = q ∙ number-in 4 at 8 s in
+    let r' : w2 ≡ number-at 12 8 (drop at s) = r ∙ number-in 12 at 8 s in
+    λ i. record { w0 = p i; w1 = q' i; w2 = r' i }
 
 -- Numbers read fit.
 module _ (at : ℕ) (s : List ℕ) (f : Bytes s) where
@@ -108,14 +106,6 @@ module _ (b a : Address) where
       ∙ sym (ap₂ (tests (eqb (b .w0) (a .w0))) (eq-eqb (b .w1) (a .w1) (sym f ∙ g)) (eq-eqb (b .w2) (a .w2) (sym d ∙ e)))
 
 -- Entries ---------------------------------------------------------------------------------------------
-
--- An entry of w bytes lies within the bytes that hold it.
-pub entry-fits : (w k n : ℕ) → k < n / w → k * w + w ≤ n
-entry-fits w k n h =
-    let p : suc k * w ≤ n / w * w = mul-le-mul-right w h in
-    let q : n / w * w ≤ n = div-mul-le-self n w in
-    let e : suc k * w ≡ k * w + w = suc-mul k w in
-    omega arith
 
 module _ {A : Type 0} (rd : List ℕ → A) (w : ℕ) where
   pub length-chunks : (n : ℕ) (l : List ℕ) → length (map rd (chunks w n l)) ≡ n

@@ -1,2 +1,3 @@
--- What a write does to a store's bytes, and what the answers mean.
+-- What a write does to a store's bytes, what the answers mean, and addresses that rise.
 pub mod Writes
+pub mod Rising

@@ -6,9 +6,9 @@ use model::storage_memo::Address;
 use model::storage_memo::U256;
 use records::Found;
 ghost use mathlib.Core.Path.{_≡_};
-ghost use mathlib.Core.Bool.{cond};
+ghost use mathlib.Core.Bool.{true, cond};
 ghost use mathlib.Core.Option.{some, none};
-ghost use Prim.Native.Nat.{_+_, _*_, _^_, _≤_, _<_};
+ghost use Prim.Native.Nat.{_+_, _*_, _/_, _^_, _≤_, _<_};
 ghost use lib.ListN.{length, drop};
 ghost use Rattle.model.specs.Numbers.{num};
 ghost use Rattle.model.specs.Slots.{address-eqb};
@@ -19,6 +19,7 @@ ghost use Rattle.words.specs.Parts.{part};
 ghost use Rattle.image.specs.Image.{overlay};
 ghost use Rattle.image.specs.Lent.{store-of, generation-of, Installed};
 ghost use Rattle.known.specs.Answers.{topped, Placed};
+ghost use Rattle.seed.specs.Rising.{address-ltb, Rise, RiseIf, bucket-of, Noted, Indexed};
 ghost use Rattle.seed.specs.Writes.{kind-of, applied-kind, Settled, Wrote, count-one, SeededAs};
 
 // What a write does: sets a served slot, whose last use is kept; sets one that is not served; nothing.
@@ -82,6 +83,84 @@ fn same_address(addresses: &[u8], at: usize, address: Address) -> bool
     read_u32(addresses, at) == address.w0
 }
 
+// The address at `at`.
+fn address_at(addresses: &[u8], at: usize) -> Address
+    requires { ⌜ at + 20 ≤ length (now addresses) ⌝ }
+    ensures { λ r. ⌜ r ≡ address-of (drop at (now (addresses .entry))) ⌝ }
+{
+    Address {
+        w0: read_u32(addresses, at),
+        w1: words::read_u64(addresses, at + 4),
+        w2: words::read_u64(addresses, at + 12),
+    }
+}
+
+// Whether two addresses are equal.
+fn equal(a: Address, b: Address) -> bool
+    ensures { λ r. ⌜ r ≡ address-eqb a b ⌝ }
+{
+    if a.w2 != b.w2 {
+        return false;
+    }
+    if a.w1 != b.w1 {
+        return false;
+    }
+    a.w0 == b.w0
+}
+
+// Whether the address at `at` comes before the given one.
+fn address_before(addresses: &[u8], at: usize, address: Address) -> bool
+    requires { ⌜ at + 20 ≤ length (now addresses) ⌝ }
+    ensures { λ r. ⌜ r ≡ address-ltb (address-of (drop at (now (addresses .entry)))) address ⌝ }
+{
+    let a = read_u32(addresses, at);
+    if a != address.w0 {
+        return a < address.w0;
+    }
+    let b = words::read_u64(addresses, at + 4);
+    if b != address.w1 {
+        return b < address.w1;
+    }
+    words::read_u64(addresses, at + 12) < address.w2
+}
+
+// Whether the addresses rise.
+fn rises(addresses: &[u8]) -> bool
+    ensures { λ r. ⌜ RiseIf r (now (addresses .entry)) ⌝ }
+{
+    let n = addresses.len() / 20;
+    let mut i = 0;
+    while i + 1 < n {
+        if address_before(addresses, (i + 1) * 20, address_at(addresses, i * 20)) {
+            return false;
+        }
+        i += 1;
+    }
+    true
+}
+
+// Whether an address is on a list that rises, by halves.
+fn relevant_rising(addresses: &[u8], address: Address) -> bool
+    requires { ⌜ Rise (now addresses) ⌝ }
+    ensures { λ r. ⌜ r ≡ relevant (addresses-of (now (addresses .entry))) address ⌝ }
+{
+    let n = addresses.len() / 20;
+    let mut lo = 0;
+    let mut hi = n;
+    while lo < hi {
+        let mid = lo + (hi - lo) / 2;
+        if address_before(addresses, mid * 20, address) {
+            lo = mid + 1;
+        } else {
+            hi = mid;
+        }
+    }
+    if lo == n {
+        return false;
+    }
+    equal(address_at(addresses, lo * 20), address)
+}
+
 // Whether an address is on the list.
 pub fn relevant(addresses: &[u8], address: Address) -> bool
     ensures { λ r. ⌜ r ≡ relevant (addresses-of (now (addresses .entry))) address ⌝ }
@@ -121,11 +200,61 @@ pub fn write_value_of(writes: &[u8], i: usize) -> U256
     read_u256(writes, i * 84 + 52)
 }
 
+// Whether an address is on the list, whose addresses rise where `rise` says so.
+fn relevant_by(addresses: &[u8], rise: bool, address: Address) -> bool
+    requires { ⌜ RiseIf rise (now addresses) ⌝ }
+    ensures { λ r. ⌜ r ≡ relevant (addresses-of (now (addresses .entry))) address ⌝ }
+{
+    if rise {
+        return relevant_rising(addresses, address);
+    }
+    relevant(addresses, address)
+}
+
+// The bucket of an address.
+fn bucket(address: Address) -> usize
+    ensures { λ r. ⌜ r ≡ bucket-of address ⌝ }
+{
+    (address.w2 % 65536) as usize
+}
+
+// Notes in each address's bucket a place of the list, from 1 on; of several that share a bucket the last.
+fn note(addresses: &[u8], table: &mut [u16])
+    requires { ⌜ length (now table) ≡ 65536 ⌝ }
+    ensures { λ _. ⌜ Noted (length (now (addresses .entry)) / 20) (now (table .exit)) (now (addresses .entry)) ⌝ }
+{
+    let n = addresses.len() / 20;
+    let mut i = 0;
+    while i < n {
+        let b = bucket(address_at(addresses, i * 20));
+        table[b] = (i % 65535 + 1) as u16;
+        i += 1;
+    }
+}
+
+// Whether an address is on the list, by the place that its bucket notes; by a search where another address has it.
+fn relevant_in(addresses: &[u8], table: &[u16], rise: bool, address: Address) -> bool
+    requires { ⌜ Indexed rise (now table) (now addresses) ⌝ }
+    ensures { λ r. ⌜ r ≡ relevant (addresses-of (now (addresses .entry))) address ⌝ }
+{
+    let k = table[bucket(address)] as usize;
+    if k == 0 {
+        return false;
+    }
+    if k <= addresses.len() / 20 {
+        if equal(address_at(addresses, (k - 1) * 20), address) {
+            return true;
+        }
+    }
+    relevant_by(addresses, rise, address)
+}
+
 // What a write does to a slot that is not served.
-fn unserved(addresses: &[u8], address: Address) -> WriteKind
+fn unserved(addresses: &[u8], table: &[u16], rise: bool, address: Address) -> WriteKind
+    requires { ⌜ Indexed rise (now table) (now addresses) ⌝ }
     ensures { λ r. ⌜ kind-of r ≡ unserved-kind (relevant (addresses-of (now (addresses .entry))) address) ⌝ }
 {
-    if relevant(addresses, address) {
+    if relevant_in(addresses, table, rise, address) {
         WriteKind::New
     } else {
         WriteKind::Skip
@@ -133,28 +262,28 @@ fn unserved(addresses: &[u8], address: Address) -> WriteKind
 }
 
 // What a write does to a slot that the top has no value of.
-fn base_kind(s: &[u8], addresses: &[u8], slot: Slot) -> WriteKind
-    requires { ⌜ Installed (now s) ⌝ }
+fn base_kind(s: &[u8], addresses: &[u8], table: &[u16], rise: bool, slot: Slot) -> WriteKind
+    requires { ⌜ Installed (now s) × Indexed rise (now table) (now addresses) ⌝ }
     ensures { λ r. ⌜ kind-of r ≡ write-kind (store-of (now (s .entry)) .config .retention) (generation-of (now (s .entry)) .anchor .number) (relevant (addresses-of (now (addresses .entry))) (slot .address)) (freshest-use slot (generation-of (now (s .entry)) .base)) ⌝ }
 {
     let used = layers::freshest_use(s, layers::layers(s), slot);
     let Use::At(u) = used else {
-        return unserved(addresses, slot.address);
+        return unserved(addresses, table, rise, slot.address);
     };
     if layers::retention(s).serves(u, layers::installed_number(s)) {
         return WriteKind::Overwrite(u);
     }
-    unserved(addresses, slot.address)
+    unserved(addresses, table, rise, slot.address)
 }
 
 // What a write does: a slot that the top has a value of was written earlier, and its use is kept.
-pub fn kind(s: &[u8], addresses: &[u8], slot: Slot) -> WriteKind
-    requires { ⌜ Installed (now s) ⌝ }
+fn kind(s: &[u8], addresses: &[u8], table: &[u16], rise: bool, slot: Slot) -> WriteKind
+    requires { ⌜ Installed (now s) × Indexed rise (now table) (now addresses) ⌝ }
     ensures { λ r. ⌜ kind-of r ≡ final-write-kind (store-of (now (s .entry)) .config .retention) (generation-of (now (s .entry)) .anchor .number) (relevant (addresses-of (now (addresses .entry))) (slot .address)) (find slot (generation-of (now (s .entry)) .top)) (freshest-use slot (generation-of (now (s .entry)) .base)) ⌝ }
 {
     match layers::top_entry(s, slot) {
-        Entry::Absent => base_kind(s, addresses, slot),
-        Entry::Used(_) => base_kind(s, addresses, slot),
+        Entry::Absent => base_kind(s, addresses, table, rise, slot),
+        Entry::Used(_) => base_kind(s, addresses, table, rise, slot),
         Entry::Valued(u, _) => WriteKind::Overwrite(u),
     }
 }
@@ -196,11 +325,18 @@ fn answer(room: bool, what: WriteKind) -> Applied
 }
 
 // Applies one write to the top. Where there is no room for its record the bytes stay.
-pub fn apply(s: &mut [u8], addresses: &[u8], slot: Slot, value: U256) -> Applied
-    requires { ⌜ Installed (now s) ⌝ }
+fn apply(
+    s: &mut [u8],
+    addresses: &[u8],
+    table: &[u16],
+    rise: bool,
+    slot: Slot,
+    value: U256,
+) -> Applied
+    requires { ⌜ Installed (now s) × Indexed rise (now table) (now addresses) ⌝ }
     ensures { λ r. ⌜ Wrote r (now (s .exit)) (now (s .entry)) (now (addresses .entry)) slot value ⌝ }
 {
-    let what = kind(s, addresses, slot);
+    let what = kind(s, addresses, table, rise, slot);
     match what {
         WriteKind::Overwrite(u) => {
             let room = settle_if_room(s, slot, value, u);
@@ -239,9 +375,9 @@ fn counted(counts: WriteCounts, what: WriteKind) -> WriteCounts
     }
 }
 
-// Applies the writes of a list in order (`seed_final_writes`). Where there is no room the bytes are left half way.
-pub fn seed_final_writes(s: &mut [u8], addresses: &[u8], writes: &[u8]) -> Seeded
-    requires { ⌜ Installed (now s) ⌝ }
+// Applies the writes of a list in order, with the table of the addresses.
+fn seed_by(s: &mut [u8], addresses: &[u8], table: &[u16], rise: bool, writes: &[u8]) -> Seeded
+    requires { ⌜ Installed (now s) × Indexed rise (now table) (now addresses) ⌝ }
     ensures { λ r. ⌜ SeededAs r (now (s .exit)) (now (s .entry)) (now (addresses .entry)) (now (writes .entry)) ⌝ }
 {
     let n = writes.len() / 84;
@@ -254,7 +390,7 @@ pub fn seed_final_writes(s: &mut [u8], addresses: &[u8], writes: &[u8]) -> Seede
     while i < n {
         let slot = write_slot_of(writes, i);
         let value = write_value_of(writes, i);
-        let done = apply(s, addresses, slot, value);
+        let done = apply(s, addresses, table, rise, slot, value);
         let Applied::Done(what) = done else {
             return Seeded::Full;
         };
@@ -262,4 +398,15 @@ pub fn seed_final_writes(s: &mut [u8], addresses: &[u8], writes: &[u8]) -> Seede
         i += 1;
     }
     Seeded::Done(counts)
+}
+
+// Applies the writes of a list in order (`seed_final_writes`). Where there is no room the bytes are left half way.
+pub fn seed_final_writes(s: &mut [u8], addresses: &[u8], writes: &[u8]) -> Seeded
+    requires { ⌜ Installed (now s) ⌝ }
+    ensures { λ r. ⌜ SeededAs r (now (s .exit)) (now (s .entry)) (now (addresses .entry)) (now (writes .entry)) ⌝ }
+{
+    let rise = rises(addresses);
+    let mut table = [0u16; 65536];
+    note(addresses, &mut table);
+    seed_by(s, addresses, &table, rise, writes)
 }

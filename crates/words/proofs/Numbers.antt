@@ -8,7 +8,7 @@ use native.Mathlib.Omega.{arith}
 use lib.Dec.{lit<}
 use lib.ListN.{length, take, drop, getD, set, length-drop, length-take, length-append}
 use lib.Seq.{take-suc, getD-drop}
-use Rattle.model.specs.Numbers.{be, num-from, num}
+use Rattle.model.specs.Numbers.{be, num-from, num, Bytes}
 use Rattle.model.proofs.NumberLaws.{num-from-snoc}
 use Rattle.words.specs.Parts.{part}
 
@@ -50,6 +50,15 @@ num-join at i (suc k) s h =
     let p' : num (part at (i + k + 1) s) ≡ num (part at (i + suc k) s) = ap (λ (n : ℕ). num (part at n s)) e in
     let q' : num (part (at + i) (k + 1) s) ≡ num (part (at + i) (suc k) s) = ap (λ (n : ℕ). num (part (at + i) n s)) f in
     omega arith
+
+-- the number of k bytes is below 256^k
+pub num-below : (at k : ℕ) (s : List ℕ) → Bytes s → at + k ≤ length s → num (part at k s) < 256 ^ k
+unfolding num-from
+num-below at zero s f h = omega arith
+num-below at (suc k) s f h =
+    let e : num (part at k s) * 256 + getD s (at + k) 0 ≡ num (part at (k + 1) s) = num-more at k (num (part at k s)) s (omega arith) refl in
+    let m : num (part at k s) * 256 + getD s (at + k) 0 < 256 ^ (k + 1) = more-fits k (num (part at k s)) (getD s (at + k) 0) (num-below at k s f (omega arith)) (f (at + k)) in
+    subst (λ (n : ℕ). num (part at n s) < 256 ^ n) (add-one k) (subst (λ (x : ℕ). x < 256 ^ (k + 1)) e m)
 
 -- the eight bytes of x, one by one
 abbrev pub be8 : ℕ → List ℕ

@@ -1,7 +1,8 @@
 -- A field of a record written where it lies is the record replaced by one with that field. Assumes nothing.
 use mathlib.Core.Path.{_≡_, refl, sym, ap, ap₂, subst, _∙_}
 use mathlib.Core.List.{List, [], _∷_, _++_, append-assoc}
-use Prim.Native.Nat.{ℕ, _+_, _≤_, _-_, min}
+use Prim.Native.Nat.{ℕ, suc, _+_, _*_, _/_, _≤_, _<_, _-_, min}
+use native.Mathlib.Nat.{suc-mul, div-mul-le-self, mul-le-mul-right}
 use native.Mathlib.Omega.{arith}
 use lib.ListN.{length, take, drop, length-append, length-take, length-drop, take-append-drop}
 use lib.Seq.{take-add, take-take, drop-drop, drop-append-le, length-take-le}
@@ -31,3 +32,11 @@ placed-field b o w v s h k =
 -- Eight bytes written one by one are the number's bytes placed.
 pub placed-be8 : (at x : ℕ) (s t : List ℕ) → t ≡ take at s ++ be8 x ++ drop (at + 8) s → t ≡ placed at (be 8 x) s
 placed-be8 at x s t e = subst (λ (v : List ℕ). t ≡ placed at v s) (be8-is x) e
+
+-- An entry of w bytes lies within the bytes that hold it.
+pub entry-fits : (w k n : ℕ) → k < n / w → k * w + w ≤ n
+entry-fits w k n h =
+    let p : suc k * w ≤ n / w * w = mul-le-mul-right w h in
+    let q : n / w * w ≤ n = div-mul-le-self n w in
+    let e : suc k * w ≡ k * w + w = suc-mul k w in
+    omega arith

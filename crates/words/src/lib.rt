@@ -1,7 +1,7 @@
 // Words of eight bytes, the highest byte first, in slices of bytes; moving and replacing bytes.
 ghost use mathlib.Core.Path.{_≡_};
 ghost use Prim.Native.Nat.{_+_, _≤_, _<_, _^_};
-ghost use lib.ListN.{length};
+ghost use lib.ListN.{length, replicate};
 ghost use Rattle.model.specs.Numbers.{num, be};
 ghost use Rattle.words.specs.Parts.{part, placed, moved};
 
@@ -68,6 +68,30 @@ pub fn place(s: &mut [u8], at: usize, r: &[u8])
     let mut j = 0;
     while j < r.len() {
         s[at + j] = r[j];
+        j += 1;
+    }
+}
+
+// Moves the n bytes `by` places past `at` down to it, the first byte first.
+pub fn move_down(s: &mut [u8], at: usize, n: usize, by: usize)
+    requires { ⌜ at + by + n ≤ length (now s) ⌝ }
+    ensures { λ _. ⌜ now (s .exit) ≡ placed at (part (at + by) n (now (s .entry))) (now (s .entry)) ⌝ }
+{
+    let mut j = 0;
+    while j < n {
+        s[at + j] = s[at + by + j];
+        j += 1;
+    }
+}
+
+// Sets the n bytes from `at` on to 0.
+pub fn clear(s: &mut [u8], at: usize, n: usize)
+    requires { ⌜ at + n ≤ length (now s) ⌝ }
+    ensures { λ _. ⌜ now (s .exit) ≡ placed at (replicate n 0) (now (s .entry)) ⌝ }
+{
+    let mut j = 0;
+    while j < n {
+        s[at + j] = 0;
         j += 1;
     }
 }

@@ -6,7 +6,8 @@ use lib.ListN.{length, drop}
 use denote.Ref.{now}
 use borrow.Author.Needs.{needs}
 use Rattle.final_writes.specs.Lent.{read-account}
-use Rattle.final_writes.proofs.Entries.{entry-fits, word-at}
+use Rattle.words.proofs.Places.{entry-fits}
+use Rattle.final_writes.proofs.Entries.{word-at}
 use Rattle.final_writes.proofs.AccountWalk.{slots-here, reads-here, admitted-seeded}
 use Rattle.final_writes.proofs.admit_account.Statement.{statement}
 use Rattle.final_writes.proofs.admit_account.Tie as tie

@@ -9,7 +9,7 @@ use borrow.Author.Needs.{needs}
 use Rattle.model.specs.Advance.{relevant}
 use Rattle.final_writes.specs.FinalWrites.{admits-from}
 use Rattle.final_writes.specs.Lent.{read-address, addresses-in}
-use Rattle.final_writes.proofs.Entries.{entry-fits}
+use Rattle.words.proofs.Places.{entry-fits}
 use Rattle.final_writes.proofs.Addresses.{admits-all, admits-named, relevant-at, relevant-end}
 use Rattle.final_writes.proofs.admits.Statement.{statement}
 use Rattle.final_writes.proofs.admits.Tie as tie

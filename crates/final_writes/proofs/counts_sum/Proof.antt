@@ -10,7 +10,8 @@ use borrow.Author.Needs.{needs}
 use borrow.Author.Tests.{ne-eqb}
 use Rattle.final_writes.specs.FinalWrites.{sum}
 use Rattle.final_writes.specs.Lent.{all-entries, word}
-use Rattle.final_writes.proofs.Entries.{entry-fits, sum-at, none-left, eqb-both, word-at}
+use Rattle.words.proofs.Places.{entry-fits}
+use Rattle.final_writes.proofs.Entries.{sum-at, none-left, eqb-both, word-at}
 use Rattle.final_writes.proofs.counts_sum.Statement.{statement}
 use Rattle.final_writes.proofs.counts_sum.Tie as tie
 

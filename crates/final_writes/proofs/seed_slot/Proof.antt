@@ -14,7 +14,8 @@ use Rattle.model.specs.Advance.{Write}
 use Rattle.final_writes.specs.declared.Found.{Found}
 use Rattle.final_writes.specs.declared.Found.the-variants.{At}
 use Rattle.final_writes.specs.Walking.{found-within}
-use Rattle.final_writes.proofs.Entries.{length-write-bytes, entry-fits, word-at, write-back}
+use Rattle.words.proofs.Places.{entry-fits}
+use Rattle.final_writes.proofs.Entries.{length-write-bytes, word-at, write-back}
 use Rattle.final_writes.proofs.Filling.{length-put}
 use Rattle.model.specs.Numbers.{Bytes}
 use Rattle.words.specs.Parts.{part, placed}

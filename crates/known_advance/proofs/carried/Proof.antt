@@ -20,7 +20,7 @@ finish-requires c κs =
     let b = c .before .before .before .before .before .before .before in
     let st = b .before .before .before .before .before .before .before .before in
     let a = st .args in
-    (carried-ready (now (a .s)) (now (a .work)) (a .child) (st .pre .0) (st .pre .1) (st .pre .2) _ _ (b .begin-carried .ensures), st .pre .4)
+    (carried-ready (now (a .s)) (now (a .work)) (a .child) (st .pre .0) (st .pre .1) (st .pre .2) _ _ (b .begin-carried .ensures), st .pre .4, c .before .before .before .counts-of .ensures)
 
 same-length : tie.Need-same-length
 same-length c = search needs

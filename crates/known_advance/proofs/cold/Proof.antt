@@ -8,12 +8,19 @@ use Rattle.known_advance.proofs.cold.Tie as tie
 begin-cold-requires : tie.Need-begin-cold-requires
 begin-cold-requires c κs = search needs
 
-finish-requires : tie.Need-finish-requires
-finish-requires c κs =
-    let b = c .before .before .before .before .before in
+counts-of-requires : tie.Need-counts-of-requires
+counts-of-requires c κs =
+    let b = c .before .before .before in
     let st = b .before .before .before .before .before .before .before .before in
     let a = st .args in
-    (cold-ready (now (a .s)) (now (a .work)) (a .child) (st .pre .0) (st .pre .1) _ (b .begin-cold .ensures), st .pre .3)
+    cold-ready (now (a .s)) (now (a .work)) (a .child) (st .pre .0) (st .pre .1) _ (b .begin-cold .ensures) .installed
+
+finish-requires : tie.Need-finish-requires
+finish-requires c κs =
+    let b = c .before .before .before .before .before .before .before in
+    let st = b .before .before .before .before .before .before .before .before in
+    let a = st .args in
+    (cold-ready (now (a .s)) (now (a .work)) (a .child) (st .pre .0) (st .pre .1) _ (b .begin-cold .ensures), st .pre .3, c .before .before .before .counts-of .ensures)
 
 same-length : tie.Need-same-length
 same-length c = search needs
@@ -27,7 +34,7 @@ same-length-3 c = search needs
 returns : tie.Need-returns
 returns c =
     let f = c .before .before .before .before .before .before in
-    let b = f .before .before .before .before .before .before in
+    let b = f .before .before .before .before .before .before .before .before in
     let st = b .before .before .before .before .before .before .before .before in
     let a = st .args in
     cold-is (now (a .s)) (now (a .work)) (a .child) (st .pre .0) (st .pre .1) _ (b .begin-cold .ensures) _ _ _ (now (a .out)) (now (a .addresses)) (now (a .writes)) (a .lineage) (a .skip) (f .finish .ensures)
@@ -37,6 +44,7 @@ cold-spec =
     tie.close
     (tie.spec
     begin-cold-requires
+    counts-of-requires
     finish-requires
     same-length
     same-length-2

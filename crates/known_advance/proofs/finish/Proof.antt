@@ -6,7 +6,7 @@ use denote.Ref.{now}
 use borrow.Author.Needs.{needs}
 use Rattle.layers.proofs.Header.{header-room}
 use Rattle.known.proofs.Segments.{known-bytes}
-use Rattle.known_advance.proofs.Finished.{seeded-full, seeded-done, size-fits, size-in, finish-full, finish-done}
+use Rattle.known_advance.proofs.Finished.{seeded-full, seeded-done, size-fits, size-in, finish-full, counts-before, finish-done}
 use Rattle.known_advance.proofs.finish.Statement.{statement}
 use Rattle.known_advance.proofs.finish.Tie as tie
 
@@ -29,32 +29,31 @@ returns c =
     let a = st .args in
     finish-full (now (a .s)) (now (a .work)) (now (a .addresses)) (now (a .writes)) (now (a .out)) (a .outcome) (a .compaction) (st .pre .0) (seeded-full _ _ _ _ _ (sw .seed-final-writes .ensures) (c .enum-told .given .1))
 
-write-outputs-requires : tie.Need-write-outputs-requires
-write-outputs-requires c κs =
+count-after-requires : tie.Need-count-after-requires
+count-after-requires c κs =
     let sd = c .before .before .before in
-    let sw = sd .before .before .before .before in
+    let k = sd .before .before in
+    let sw = k .before .before in
     let st = sw .before .before .before .before .before .before .before in
-    (seeded-done _ _ _ _ _ _ (sw .seed-final-writes .ensures) (sd .seeded .given .1) .installed, st .pre .1)
-
-counts-of-requires : tie.Need-counts-of-requires
-counts-of-requires c κs =
-    let sd = c .before .before .before .before .before .before .before in
-    let sw = sd .before .before .before .before in
-    seeded-done _ _ _ _ _ _ (sw .seed-final-writes .ensures) (sd .seeded .given .1) .installed
+    let a = st .args in
+    let t = seeded-done _ _ _ _ _ _ (sw .seed-final-writes .ensures) (sd .seeded .given .1) in (
+      (t .installed, st .pre .1),
+      counts-before (now (a .s)) (now (a .work)) (now (a .addresses)) (now (a .writes)) (now (a .out)) (a .outcome) (a .compaction) (st .pre .0) _ _ (known-bytes (sw .seed-final-writes .last .0) (k .slice-known4 .given)) t _ (st .pre .2),
+    )
 
 read-u64-requires : tie.Need-read-u64-requires
 read-u64-requires c κs =
-    let sd = c .before .before .before .before .before .before .before .before .before in
+    let sd = c .before .before .before .before .before .before .before in
     let st = sd .before .before .before .before .before .before .before .before .before .before .before in
     omega (arith, header-room (now (st .args .s)) (st .pre .0 .is-store))
 
 -- The size of the store.
 fits : (c : tie.After-read-u64) →
-    let sd = c .before .before .before .before .before .before .before .before .before .before in
+    let sd = c .before .before .before .before .before .before .before .before in
     let st = sd .before .before .before .before .before .before .before .before .before .before .before in
     (6848 + 104 * c .read-u64 .result ≤ length (now (st .args .s))) × (c .read-u64 .result ≤ 4096)
 fits c =
-    let sd = c .before .before .before .before .before .before .before .before .before .before in
+    let sd = c .before .before .before .before .before .before .before .before in
     let st = sd .before .before .before .before .before .before .before .before .before .before .before in
     size-fits (now (st .args .s)) (now (st .args .work)) _ (st .pre .0) (c .read-u64 .ensures)
 
@@ -67,7 +66,7 @@ add-n c = omega (arith, fits c)
 copy-back-requires : tie.Need-copy-back-requires
 copy-back-requires c κs =
     let rd = c .before .before in
-    let sd = rd .before .before .before .before .before .before .before .before .before .before in
+    let sd = rd .before .before .before .before .before .before .before .before in
     let sw = sd .before .before .before .before in
     let st = sd .before .before .before .before .before .before .before .before .before .before .before in
     (size-in (now (st .args .s)) (now (st .args .work)) _ _ _ _ (st .pre .0) (seeded-done _ _ _ _ _ _ (sw .seed-final-writes .ensures) (sd .seeded .given .1)) (rd .read-u64 .ensures), fits rd .0)
@@ -85,14 +84,13 @@ returns-2 : tie.Need-returns-2
 returns-2 c =
     let cb = c .before .before in
     let rd = cb .before .before .before in
-    let co = rd .before .before in
-    let wo = co .before .before .before .before in
-    let sd = wo .before .before .before .before in
+    let co = rd .before .before .before .before in
+    let sd = co .before .before .before .before in
     let k = sd .before .before in
     let sw = k .before .before in
     let st = sw .before .before .before .before .before .before .before in
     let a = st .args in
-    finish-done (now (a .s)) (now (a .work)) (now (a .addresses)) (now (a .writes)) (now (a .out)) (a .outcome) (a .compaction) (st .pre .0) _ _ (known-bytes (sw .seed-final-writes .last .0) (k .slice-known4 .given)) (seeded-done _ _ _ _ _ _ (sw .seed-final-writes .ensures) (sd .seeded .given .1)) _ _ _ _ (rd .read-u64 .ensures) (cb .copy-back .ensures) (wo .write-outputs .ensures .0) (co .counts-of .ensures)
+    finish-done (now (a .s)) (now (a .work)) (now (a .addresses)) (now (a .writes)) (now (a .out)) (a .outcome) (a .compaction) (st .pre .0) _ _ (known-bytes (sw .seed-final-writes .last .0) (k .slice-known4 .given)) (seeded-done _ _ _ _ _ _ (sw .seed-final-writes .ensures) (sd .seeded .given .1)) _ _ _ _ (rd .read-u64 .ensures) (cb .copy-back .ensures) (co .count-after .ensures .0) (co .count-after .ensures .1)
 
 pub finish-spec : {M : Type 1} → statement M
 finish-spec =
@@ -103,8 +101,7 @@ finish-spec =
     enum-told
     same-length
     returns
-    write-outputs-requires
-    counts-of-requires
+    count-after-requires
     read-u64-requires
     mul-n
     add-n

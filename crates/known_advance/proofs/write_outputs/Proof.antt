@@ -7,7 +7,7 @@ use denote.Ref.{now}
 use borrow.Author.Needs.{needs}
 use Rattle.image.specs.Lent.{generation-of}
 use Rattle.known.proofs.Segments.{known-bytes}
-use Rattle.seed.proofs.Entries.{entry-fits}
+use Rattle.words.proofs.Places.{entry-fits}
 use Rattle.known_advance.proofs.Outputs.{Putting, putting-start, putting-one, putting-end}
 use Rattle.known_advance.proofs.write_outputs.Statement.{statement}
 use Rattle.known_advance.proofs.write_outputs.Tie as tie

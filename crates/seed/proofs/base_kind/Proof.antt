@@ -24,7 +24,7 @@ unserved-requires c κs = search needs
 returns : tie.Need-returns
 returns c =
     let f = c .before .before .before in
-    kind-unused _ _ _ (generation-of (now (f .before .before .before .before .args .s)) .base) _ _ _ (f .before .layers .ensures) (f .freshest-use .ensures) _ (c .before .enum-told .given .1) (c .unserved .ensures)
+    kind-unused _ _ _ (generation-of (now (f .before .before .before .before .before .args .s)) .base) _ _ _ (f .before .layers .ensures) (f .freshest-use .ensures) _ (c .before .enum-told .given .1) (c .unserved .ensures)
 
 retention-requires : tie.Need-retention-requires
 retention-requires c κs = search needs
@@ -40,7 +40,7 @@ returns-2 c =
     let r = c .before .before .before in
     let u = r .before .before in
     let f = u .before .before in
-    kind-served _ _ _ (generation-of (now (f .before .before .before .before .args .s)) .base) _ _ _ (f .before .layers .ensures) (f .freshest-use .ensures)
+    kind-served _ _ _ (generation-of (now (f .before .before .before .before .before .args .s)) .base) _ _ _ (f .before .layers .ensures) (f .freshest-use .ensures)
     _ _ _ _ (u .used .given .1) (r .retention .ensures) (c .before .before .installed-number .ensures) (c .before .serves .ensures) (c .if1 .taken)
 
 unserved-requires-2 : tie.Need-unserved-requires-2
@@ -52,7 +52,7 @@ returns-3 c =
     let r = e .before .before .before in
     let u = r .before .before in
     let f = u .before .before in
-    kind-stale _ _ _ (generation-of (now (f .before .before .before .before .args .s)) .base) _ _ _ (f .before .layers .ensures) (f .freshest-use .ensures)
+    kind-stale _ _ _ (generation-of (now (f .before .before .before .before .before .args .s)) .base) _ _ _ (f .before .layers .ensures) (f .freshest-use .ensures)
     _ _ _ _ (u .used .given .1) (r .retention .ensures) (e .before .before .installed-number .ensures) (e .before .serves .ensures) _ (e .if1 .left) (c .unserved2 .ensures)
 
 pub base-kind-spec : {M : Type 1} → statement M

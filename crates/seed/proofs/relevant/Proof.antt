@@ -8,7 +8,8 @@ use denote.Ref.{now}
 use borrow.Author.Needs.{needs}
 use Rattle.model.specs.Advance.{relevant}
 use Rattle.model.specs.Entries.{addresses-of}
-use Rattle.seed.proofs.Entries.{entry-fits, relevant-at, relevant-end}
+use Rattle.words.proofs.Places.{entry-fits}
+use Rattle.seed.proofs.Entries.{relevant-at, relevant-end}
 use Rattle.seed.proofs.relevant.Statement.{statement}
 use Rattle.seed.proofs.relevant.Tie as tie
 

@@ -4,14 +4,14 @@ use borrow.Author.Needs.{needs}
 use Rattle.seed.proofs.unserved.Statement.{statement}
 use Rattle.seed.proofs.unserved.Tie as tie
 
-relevant-requires : tie.Need-relevant-requires
-relevant-requires c κs = search needs
+relevant-in-requires : tie.Need-relevant-in-requires
+relevant-in-requires c κs = search needs
 
 returns : tie.Need-returns
-returns c = is-new _ _ (c .before .relevant .ensures) (c .if1 .taken)
+returns c = is-new _ _ (c .before .relevant-in .ensures) (c .if1 .taken)
 
 returns-2 : tie.Need-returns-2
-returns-2 c = is-skip _ _ (c .before .relevant .ensures) (c .if1 .left)
+returns-2 c = is-skip _ _ (c .before .relevant-in .ensures) (c .if1 .left)
 
 pub unserved-spec : {M : Type 1} → statement M
-unserved-spec = tie.close (tie.spec relevant-requires returns returns-2)
+unserved-spec = tie.close (tie.spec relevant-in-requires returns returns-2)

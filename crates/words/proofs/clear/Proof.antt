@@ -1,4 +1,4 @@
--- `known::clear` meets its contract. The loop's invariant: j zeros stand from `at` on. Assumes nothing.
+-- `words::clear` meets its contract. The loop's invariant: j zeros stand from `at` on. Assumes nothing.
 use borrow.Author.Needs.{needs}
 use mathlib.Core.Path.{_≡_, refl, sym, ap, _∙_}
 use mathlib.Core.List.{List}
@@ -8,8 +8,8 @@ use native.Mathlib.Numerals.{add-one}
 use lib.ListN.{length, set, replicate, length-set, length-replicate, getD-replicate}
 use lib.Seq.{paste, paste-zero, paste-suc, take-all}
 use denote.Ref.{now}
-use Rattle.known.proofs.clear.Statement.{statement}
-use Rattle.known.proofs.clear.Tie as tie
+use Rattle.words.proofs.clear.Statement.{statement}
+use Rattle.words.proofs.clear.Tie as tie
 
 abbrev Inv-loop : tie.InvT-loop
 Inv-loop s₀ at n j₀ s j = (j ≤ n) × (length s ≡ length s₀) × (s ≡ paste s₀ at (replicate n 0) j)

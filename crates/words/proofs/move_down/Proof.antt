@@ -1,4 +1,4 @@
--- `awaiting::move_down` meets its contract.
+-- `words::move_down` meets its contract.
 use borrow.Author.Needs.{needs}
 use native.Mathlib.Omega.{arith}
 use denote.Ref.{now}
@@ -8,10 +8,10 @@ use Prim.Native.Nat.{ℕ, _+_, _≤_, _-_}
 use native.Mathlib.Numerals.{add-one}
 use lib.ListN.{length, drop, getD, set, length-set, length-drop}
 use lib.Seq.{paste, paste-zero, paste-suc, length-take-le}
 use Rattle.words.specs.Parts.{part}
-use Rattle.awaiting.proofs.Moves.{pasted, moved-read}
-use Rattle.awaiting.proofs.move_down.Statement.{statement}
-use Rattle.awaiting.proofs.move_down.Tie as tie
+use Rattle.words.proofs.Pasting.{pasted, moved-read}
+use Rattle.words.proofs.move_down.Statement.{statement}
+use Rattle.words.proofs.move_down.Tie as tie
 
 abbrev Inv-loop : tie.InvT-loop
 Inv-loop s₀ at n by j₀ s j = (j ≤ n) × (length s ≡ length s₀) × (s ≡ paste s₀ at (part (at + by) n s₀) j)
