@@ -25,7 +25,7 @@ no-bytes (suc k) (x ∷ l) h = absurd (omega arith)
 -- What follows a call, read in two ways.
 same-after : (p : Parsed Call) (f g : List ℕ → CallList) → ((c : Call) (r : List ℕ) → p ≡ parsed c r → f r ≡ g r) → after-parse p f ≡ after-parse p g
 same-after (parsed c r) f g h = ap (add-call c) (h c r refl)
-same-after (fault n) f g h = refl
+same-after (fault n r) f g h = refl
 
 same-next : (l : List ℕ) (f g : List ℕ → CallList) → ((c : Call) (r : List ℕ) → parse-call l ≡ parsed c r → f r ≡ g r) → next-call l f ≡ next-call l g
 same-next [] f g h = refl
@@ -52,10 +52,10 @@ call-list-next (x ∷ l) c r b e =
     let o : ReadOn c r (x ∷ l) = parsed-call (x ∷ l) c r b e in
     ap (λ p. after-parse p (parse-calls (length l))) e ∙ ap (add-call c) (enough (length l) (length r) r (o .bytes) (omega arith) (omega arith))
 
-pub call-list-fault : (l : List ℕ) (n : ℕ) → 0 < length l → parse-call l ≡ fault n → call-list l ≡ record { calls = []; ends-with = some n }
+pub call-list-fault : (l : List ℕ) (n : ℕ) (r : List ℕ) → 0 < length l → parse-call l ≡ fault n r → call-list l ≡ record { calls = []; ends-with = some n }
 unfolding call-list parse-calls
-call-list-fault [] n h e = absurd (omega arith)
-call-list-fault (x ∷ l) n h e = ap (λ p. after-parse p (parse-calls (length l))) e
+call-list-fault [] n r h e = absurd (omega arith)
+call-list-fault (x ∷ l) n r h e = ap (λ p. after-parse p (parse-calls (length l))) e
 
 -- Every call fits -------------------------------------------------------------------------------------
 
@@ -66,7 +66,7 @@ all-fit (c ∷ cs) = call-fits c && all-fit cs
 after-fits : (p : Parsed Call) (f : List ℕ → CallList) → ((c : Call) (r : List ℕ) → p ≡ parsed c r → (call-fits c && all-fit (f r .calls)) ≡ true) → all-fit (after-parse p f .calls) ≡ true
 unfolding all-fit
 after-fits (parsed c r) f h = h c r refl
-after-fits (fault n) f h = refl
+after-fits (fault n r) f h = refl
 
 calls-fit-from : (k : ℕ) (l : List ℕ) → Bytes l → all-fit (parse-calls k l .calls) ≡ true
 unfolding parse-calls all-fit

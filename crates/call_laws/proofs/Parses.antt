@@ -26,7 +26,7 @@ use Rattle.call_list.specs.CallList.{Parsed, parsed, fault, then, number-from, 
 
 -- A fault, or a thing with a property and at most n bytes after it.
 data After {A : Type 0} (P : A → Type 0) (n : ℕ) : Parsed A → Type 0 where
-  after-fault : {k : ℕ} → After P n (fault k)
+  after-fault : {k : ℕ} {r : List ℕ} → After P n (fault k r)
   after-parsed : {a : A} {r : List ℕ} → P a → Bytes r → length r ≤ n → After P n (parsed a r)
 
 -- A parser of bytes that gives things with a property, and leaves no more bytes than it was given.
@@ -102,7 +102,7 @@ group-fits : (w a x : ℕ) → a < w → x < 128 → a + w * x < w * 128
 group-fits w a x h k = let p : w * x ≤ w * 127 = mul-le-mul-left w (omega arith) in omega arith
 
 last-group : (k w a x : ℕ) (l : List ℕ) → w * 128 ^ suc k ≡ 2 ^ 63 → a < w → x < 128 → Bytes l
-    → After Fits (suc (length l)) (cond (eqb x 0 && ltb 1 w) (fault 4) (parsed (a + w * x) l))
+    → After Fits (suc (length l)) (cond (eqb x 0 && ltb 1 w) (fault 4 (x ∷ l)) (parsed (a + w * x) l))
 last-group k w a x l e h u b =
     let f : Fits (a + w * x) = below-fits (a + w * x) (omega (arith, worth-fits k w e, group-fits w a x h u)) in
     after-cond (eqb x 0 && ltb 1 w) (λ t. after-fault) (λ t. after-parsed {r = l} f b (omega arith))

@@ -17,24 +17,24 @@ use Rattle.model.specs.Advance.{Write}
 use Rattle.model.specs.Reads.{Member}
 use Rattle.model.specs.Store.{AnchoredCall, look, get, put, read, take as take-call, answer, answer-failed, StoreCall, install, advance, at-anchor, Call, open-store, on-store}
 
--- What reading gives: a thing and the bytes after it, or the refusal of the fault whose byte comes first.
+-- What reading gives: a thing and the bytes after it; or the refusal of the fault whose byte comes first, and the bytes from that one on, which are none where the list ends.
 pub data Parsed (A : Type 0) : Type 0 where
   parsed : A → List ℕ → Parsed A
-  fault : ℕ → Parsed A
+  fault : ℕ → List ℕ → Parsed A
 
 -- Goes on with what was read, and the bytes after it.
 abbrev pub then : {A B : Type 0} → Parsed A → (A → List ℕ → Parsed B) → Parsed B
 then (parsed a l) f = f a l
-then (fault n) f = fault n
+then (fault n r) f = fault n r
 
 -- Numbers and bytes -----------------------------------------------------------------------------------
 
--- A number from its group on of worth w, with a from the groups before; k groups may follow. Each byte has seven bits, plus 128 where another follows. 5: the list ends inside the number. 4: not in shortest form (a last group of 0 after others), or reaches 2^64 (a tenth byte above 1).
+-- A number from its group on of worth w, with a from the groups before; k groups may follow. Each byte has seven bits, plus 128 where another follows. 5: the list ends inside the number. 4: not in shortest form (a last group of 0 after others), or reaches 2^64 (a tenth byte above 1). Its byte is the last one read.
 unfoldable pub number-from : ℕ → ℕ → ℕ → List ℕ → Parsed ℕ
-number-from k w a [] = fault 5
-number-from zero w a (b ∷ l) = cond (eqb b 1) (parsed (a + w) l) (fault 4)
+number-from k w a [] = fault 5 []
+number-from zero w a (b ∷ l) = cond (eqb b 1) (parsed (a + w) l) (fault 4 (b ∷ l))
 number-from (suc k) w a (b ∷ l) =
-    cond (ltb b 128) (cond (eqb b 0 && ltb 1 w) (fault 4) (parsed (a + w * b) l)) (number-from k (w * 128) (a + w * (b - 128)) l)
+    cond (ltb b 128) (cond (eqb b 0 && ltb 1 w) (fault 4 (b ∷ l)) (parsed (a + w * b) l)) (number-from k (w * 128) (a + w * (b - 128)) l)
 
 -- A number has at most ten groups.
 abbrev pub parse-number : List ℕ → Parsed ℕ
@@ -42,12 +42,12 @@ parse-number l = number-from 9 1 0 l
 
 -- n bytes as they stand.
 abbrev pub parse-bytes : ℕ → List ℕ → Parsed (List ℕ)
-parse-bytes n l = cond (leb n (length l)) (parsed (take n l) (drop n l)) (fault 5)
+parse-bytes n l = cond (leb n (length l)) (parsed (take n l) (drop n l)) (fault 5 [])
 
 -- A form byte: 0 or 1, else refusal 3.
 unfoldable pub parse-form : List ℕ → Parsed Bool
-parse-form [] = fault 5
-parse-form (b ∷ l) = cond (ltb 1 b) (fault 3) (parsed (eqb b 1) l)
+parse-form [] = fault 5 []
+parse-form (b ∷ l) = cond (ltb 1 b) (fault 3 (b ∷ l)) (parsed (eqb b 1) l)
 
 -- As many entries as a count says, one after the other. The count isn't compared with what is left.
 unfoldable pub parse-entries : {A : Type 0} → (List ℕ → Parsed A) → ℕ → List ℕ → Parsed (List A)
@@ -159,11 +159,11 @@ code-table =
 
 -- The reader of a code; an unknown code is refusal 3.
 unfoldable pub parse-of : ℕ → List CodeEntry → List ℕ → Parsed Call
-parse-of c [] = λ l. fault 3
+parse-of c [] = λ l. fault 3 (c ∷ l)
 parse-of c (e ∷ es) = cond (eqb (e .code) c) (e .parse) (parse-of c es)
 
 unfoldable pub parse-call : List ℕ → Parsed Call
-parse-call [] = fault 5
+parse-call [] = fault 5 []
 parse-call (c ∷ l) = parse-of c code-table l
 
 -- The calls of a list, and the refusal that ends it or none.
@@ -181,7 +181,7 @@ no-more-calls = record { calls = []; ends-with = none }
 
 abbrev pub after-parse : Parsed Call → (List ℕ → CallList) → CallList
 after-parse (parsed c l) f = add-call c (f l)
-after-parse (fault n) f = record { calls = []; ends-with = some n }
+after-parse (fault n r) f = record { calls = []; ends-with = some n }
 
 abbrev pub next-call : List ℕ → (List ℕ → CallList) → CallList
 next-call [] f = no-more-calls

@@ -29,6 +29,10 @@ pub fn print_listing(fd: i32, list: &[u8]) {
                 next = cursor.at;
                 ended = last;
             }
+            Ran::Broken(_, _, written) => {
+                io::write_all(fd, &out[0..written]);
+                ended = true;
+            }
         }
     }
 }

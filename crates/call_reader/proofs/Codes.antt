@@ -8,12 +8,20 @@ use borrow.Author.Tests.{eqb-true, eqb-false, ne-eqb}
 use lib.Dec.{eqb}
 use lib.ListN.{length, drop, getD, drop-of-length-le}
 use Rattle.call_list.specs.CallList.{fault, parse-open, parse-install, parse-advance, parse-anchored, parse-of, code-table, parse-call, parse-with-slot}
-use Rattle.call_reader.specs.Calls.{parse-rest, slot-call}
+use Rattle.call_reader.specs.declared.CallRead.{CallRead}
+use Rattle.call_reader.specs.declared.CallRead.the-variants.{Value, Fault}
+use Rattle.call_reader.specs.Calls.{parse-rest, slot-call, call-next, call-progress}
+use Rattle.reader.proofs.Bytes.{at-end}
 use Rattle.reader.proofs.Groups.{byte-there}
 
-pub call-ends : (at : ℕ) (s : List ℕ) → length s ≤ at → fault 5 ≡ parse-call (drop at s)
+pub call-ends : (at : ℕ) (s : List ℕ) → length s ≤ at → fault 5 (drop (length s) s) ≡ parse-call (drop at s)
 unfolding parse-call
-call-ends at s h = sym (ap parse-call (drop-of-length-le s h))
+call-ends at s h = at-end s ∙ sym (ap parse-call (drop-of-length-le s h))
+
+-- an answer whose place is further on
+pub call-forth : (at : ℕ) (r : CallRead) → at < call-next r → call-progress at r
+call-forth at (Value x c) h = h
+call-forth at (Fault n c) h = tt
 
 -- a call of the code that stands at its place
 module _ (at : ℕ) (s : List ℕ) (h : at < length s) where
@@ -57,15 +65,16 @@ call-anchored at s h p q = anchored-code (drop (at + 1) s) (getD s at 0) p q ∙
 
 -- no code
 not-code : (l : List ℕ) (n : ℕ) → (1 ≡ n → ⊥) → (2 ≡ n → ⊥) → (3 ≡ n → ⊥) → (4 ≡ n → ⊥) → (5 ≡ n → ⊥) → (6 ≡ n → ⊥) → (7 ≡ n → ⊥) → (8 ≡ n → ⊥) → (9 ≡ n → ⊥)
-    → fault 3 ≡ parse-call (n ∷ l)
+    → fault 3 (n ∷ l) ≡ parse-call (n ∷ l)
 unfolding parse-call parse-of code-table
 not-code l n a b c d e f g h i =
     rw (ne-eqb 1 n a, ne-eqb 2 n b, ne-eqb 3 n c, ne-eqb 4 n d, ne-eqb 5 n e, ne-eqb 6 n f, ne-eqb 7 n g, ne-eqb 8 n h, ne-eqb 9 n i)
 
-pub call-unknown : (at : ℕ) (s : List ℕ) → at < length s → (1 ≤ getD s at 0 → getD s at 0 ≤ 9 → ⊥) → fault 3 ≡ parse-call (drop at s)
+pub call-unknown : (at : ℕ) (s : List ℕ) → at < length s → (1 ≤ getD s at 0 → getD s at 0 ≤ 9 → ⊥) → fault 3 (drop at s) ≡ parse-call (drop at s)
 call-unknown at s h k =
     let n = getD s at 0 in
-    not-code (drop (at + 1) s) n
+    ap (fault 3) (byte-there s at h)
+    ∙ not-code (drop (at + 1) s) n
     (λ e. k (omega arith) (omega arith)) (λ e. k (omega arith) (omega arith)) (λ e. k (omega arith) (omega arith))
     (λ e. k (omega arith) (omega arith)) (λ e. k (omega arith) (omega arith)) (λ e. k (omega arith) (omega arith))
     (λ e. k (omega arith) (omega arith)) (λ e. k (omega arith) (omega arith)) (λ e. k (omega arith) (omega arith))

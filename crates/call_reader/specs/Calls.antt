@@ -1,5 +1,5 @@
 -- What the answers for calls stand for, given the list's bytes.
-use Prim.Native.Nat.{ℕ, _+_, _*_, _≤_}
+use Prim.Native.Nat.{ℕ, _+_, _*_, _≤_, _<_}
 use mathlib.Core.Bool.{cond}
 use mathlib.Core.List.{List}
 use lib.Dec.{eqb}
@@ -50,30 +50,35 @@ slot-call code x = cond (eqb code 4) (Store.look x) (cond (eqb code 5) (Store.ge
 abbrev pub parse-rest : ℕ → List ℕ → Parsed Store.AnchoredCall
 parse-rest code = cond (eqb code 6) parse-put (cond (eqb code 8) parse-take (cond (eqb code 9) parse-answer (parse-with-slot (slot-call code))))
 
--- Each answer: what was read and the bytes after it, or a fault. Then its next place, which of a fault is the list's end.
+-- Each answer: what was read and the bytes after it, or a fault and the bytes from its place on. Then the place after what was read, or the fault's.
 abbrev pub retention-answer : List ℕ → RetentionRead → Parsed Retention
 retention-answer s (retention.Value x c) = parsed x (drop (c .at) s)
-retention-answer s (retention.Fault n) = fault n
+retention-answer s (retention.Fault n c) = fault n (drop (c .at) s)
 
-abbrev pub retention-next : ℕ → RetentionRead → ℕ
-retention-next end (retention.Value x c) = c .at
-retention-next end (retention.Fault n) = end
+abbrev pub retention-next : RetentionRead → ℕ
+retention-next (retention.Value x c) = c .at
+retention-next (retention.Fault n c) = c .at
 
 abbrev pub anchored-answer : List ℕ → AnchoredRead → Parsed Store.AnchoredCall
 anchored-answer s (anchored.Value x c) = parsed (anchored-of s x) (drop (c .at) s)
-anchored-answer s (anchored.Fault n) = fault n
+anchored-answer s (anchored.Fault n c) = fault n (drop (c .at) s)
 
-abbrev pub anchored-next : ℕ → AnchoredRead → ℕ
-anchored-next end (anchored.Value x c) = c .at
-anchored-next end (anchored.Fault n) = end
+abbrev pub anchored-next : AnchoredRead → ℕ
+anchored-next (anchored.Value x c) = c .at
+anchored-next (anchored.Fault n c) = c .at
 
 abbrev pub call-answer : List ℕ → CallRead → Parsed Store.Call
 call-answer s (call.Value x c) = parsed (call-of s x) (drop (c .at) s)
-call-answer s (call.Fault n) = fault n
+call-answer s (call.Fault n c) = fault n (drop (c .at) s)
 
-abbrev pub call-next : ℕ → CallRead → ℕ
-call-next end (call.Value x c) = c .at
-call-next end (call.Fault n) = end
+abbrev pub call-next : CallRead → ℕ
+call-next (call.Value x c) = c .at
+call-next (call.Fault n c) = c .at
+
+-- A call that was read has at least one byte.
+abbrev pub call-progress : ℕ → CallRead → Type 0
+call-progress at (call.Value x c) = at < c .at
+call-progress at (call.Fault n c) = Unit {0}
 
 -- Where the spans of a call stand: within the list. An answer's members end at the next place.
 abbrev pub anchored-within : List ℕ → ℕ → AnchoredCall → Type 0
@@ -93,8 +98,8 @@ call-within s next (Anchored a c) = anchored-within s next c
 
 abbrev pub anchored-spans : List ℕ → AnchoredRead → Type 0
 anchored-spans s (anchored.Value x c) = anchored-within s (c .at) x
-anchored-spans s (anchored.Fault n) = Unit {0}
+anchored-spans s (anchored.Fault n c) = Unit {0}
 
 abbrev pub call-spans : List ℕ → CallRead → Type 0
 call-spans s (call.Value x c) = call-within s (c .at) x
-call-spans s (call.Fault n) = Unit {0}
+call-spans s (call.Fault n c) = Unit {0}

@@ -7,7 +7,7 @@ ghost use lib.ListN.{length, drop};
 ghost use Rattle.call_list.specs.CallList.{parse-retention, parse-limits, parse-open, parse-install, parse-advance, parse-put, parse-round, parse-answer, parse-with-slot, parse-anchored, parse-call};
 ghost use Rattle.reader.specs.Answers.{Reading};
 ghost use Rattle.call_reader.specs.Calls.{retention-answer, retention-next, anchored-answer, anchored-next, call-answer, call-next};
-ghost use Rattle.call_reader.specs.Calls.{anchored-of, anchored-within, anchored-spans, call-spans, slot-call, parse-rest, parse-lists};
+ghost use Rattle.call_reader.specs.Calls.{anchored-of, anchored-within, anchored-spans, call-progress, call-spans, slot-call, parse-rest, parse-lists};
 use model::delta_snapshot::DEFAULT_MAX_DEPTH;
 use model::delta_snapshot::Retention;
 use model::delta_snapshot::Slot;
@@ -25,7 +25,7 @@ use reader::Word;
 // A retention that was read.
 pub enum RetentionRead {
     Value(Retention, Cursor),
-    Fault(u64),
+    Fault(u64, Cursor),
 }
 
 // A call at an anchor. An answer's members are 53 or 85 bytes each, a failed round's slots 52.
@@ -42,7 +42,7 @@ pub enum AnchoredCall {
 // What stands after the anchor of a call that names one.
 pub enum AnchoredRead {
     Value(AnchoredCall, Cursor),
-    Fault(u64),
+    Fault(u64, Cursor),
 }
 
 // A call. An advance has child, parent hash, skip, addresses of 20 bytes each and writes of 84.
@@ -56,13 +56,13 @@ pub enum ListedCall {
 // A call that was read.
 pub enum CallRead {
     Value(ListedCall, Cursor),
-    Fault(u64),
+    Fault(u64, Cursor),
 }
 
 // A retention, by its form byte: unbounded, or an idle number.
 fn read_retention(s: &[u8], idle: bool, c: Cursor) -> RetentionRead
     requires { ⌜ c .at ≤ length (now s) ⌝ }
-    ensures { λ r. ⌜ Reading (retention-answer (now (s .entry)) r) (parse-retention idle (drop (c .at) (now (s .entry)))) (c .at) (retention-next (length (now (s .entry))) r) (length (now (s .entry))) ⌝ }
+    ensures { λ r. ⌜ Reading (retention-answer (now (s .entry)) r) (parse-retention idle (drop (c .at) (now (s .entry)))) (c .at) (retention-next r) (length (now (s .entry))) ⌝ }
 {
     if idle {
         match reader::read_number(s, c) {
@@ -70,7 +70,7 @@ fn read_retention(s: &[u8], idle: bool, c: Cursor) -> RetentionRead
                 Retention::IdleBlocks(blocks),
                 next,
             ),
-            Number::Fault(n) => RetentionRead::Fault(n),
+            Number::Fault(n, place) => RetentionRead::Fault(n, place),
         }
     } else {
         RetentionRead::Value(Retention::Unbounded, c)
@@ -80,7 +80,7 @@ fn read_retention(s: &[u8], idle: bool, c: Cursor) -> RetentionRead
 // An open's depth and retention, which stand after the form byte 1.
 fn read_depth(s: &[u8], capacity: u64, c: Cursor) -> CallRead
     requires { ⌜ c .at ≤ length (now s) ⌝ }
-    ensures reading { λ r. ⌜ Reading (call-answer (now (s .entry)) r) (parse-limits capacity true (drop (c .at) (now (s .entry)))) (c .at) (call-next (length (now (s .entry))) r) (length (now (s .entry))) ⌝ }
+    ensures reading { λ r. ⌜ Reading (call-answer (now (s .entry)) r) (parse-limits capacity true (drop (c .at) (now (s .entry)))) (c .at) (call-next r) (length (now (s .entry))) ⌝ }
     ensures spans { λ r. ⌜ call-spans (now (s .entry)) r ⌝ }
 {
     match reader::read_number(s, c) {
@@ -90,18 +90,18 @@ fn read_depth(s: &[u8], capacity: u64, c: Cursor) -> CallRead
                     ListedCall::Open(capacity, depth, retention),
                     next,
                 ),
-                RetentionRead::Fault(n) => CallRead::Fault(n),
+                RetentionRead::Fault(n, place) => CallRead::Fault(n, place),
             },
-            Form::Fault(n) => CallRead::Fault(n),
+            Form::Fault(n, place) => CallRead::Fault(n, place),
         },
-        Number::Fault(n) => CallRead::Fault(n),
+        Number::Fault(n, place) => CallRead::Fault(n, place),
     }
 }
 
 // An open's limits, by its form byte: depth 8 and unbounded, or both named.
 fn read_limits(s: &[u8], capacity: u64, named: bool, c: Cursor) -> CallRead
     requires { ⌜ c .at ≤ length (now s) ⌝ }
-    ensures reading { λ r. ⌜ Reading (call-answer (now (s .entry)) r) (parse-limits capacity named (drop (c .at) (now (s .entry)))) (c .at) (call-next (length (now (s .entry))) r) (length (now (s .entry))) ⌝ }
+    ensures reading { λ r. ⌜ Reading (call-answer (now (s .entry)) r) (parse-limits capacity named (drop (c .at) (now (s .entry)))) (c .at) (call-next r) (length (now (s .entry))) ⌝ }
     ensures spans { λ r. ⌜ call-spans (now (s .entry)) r ⌝ }
 {
     if named {
@@ -117,34 +117,34 @@ fn read_limits(s: &[u8], capacity: u64, named: bool, c: Cursor) -> CallRead
 // 1 open: capacity, and the limits.
 fn read_open(s: &[u8], c: Cursor) -> CallRead
     requires { ⌜ c .at ≤ length (now s) ⌝ }
-    ensures reading { λ r. ⌜ Reading (call-answer (now (s .entry)) r) (parse-open (drop (c .at) (now (s .entry)))) (c .at) (call-next (length (now (s .entry))) r) (length (now (s .entry))) ⌝ }
+    ensures reading { λ r. ⌜ Reading (call-answer (now (s .entry)) r) (parse-open (drop (c .at) (now (s .entry)))) (c .at) (call-next r) (length (now (s .entry))) ⌝ }
     ensures spans { λ r. ⌜ call-spans (now (s .entry)) r ⌝ }
 {
     match reader::read_number(s, c) {
         Number::Value(capacity, form) => match reader::read_form(s, form) {
             Form::Value(named, next) => read_limits(s, capacity, named, next),
-            Form::Fault(n) => CallRead::Fault(n),
+            Form::Fault(n, place) => CallRead::Fault(n, place),
         },
-        Number::Fault(n) => CallRead::Fault(n),
+        Number::Fault(n, place) => CallRead::Fault(n, place),
     }
 }
 
 // 2 install: an anchor.
 fn read_install(s: &[u8], c: Cursor) -> CallRead
     requires { ⌜ c .at ≤ length (now s) ⌝ }
-    ensures reading { λ r. ⌜ Reading (call-answer (now (s .entry)) r) (parse-install (drop (c .at) (now (s .entry)))) (c .at) (call-next (length (now (s .entry))) r) (length (now (s .entry))) ⌝ }
+    ensures reading { λ r. ⌜ Reading (call-answer (now (s .entry)) r) (parse-install (drop (c .at) (now (s .entry)))) (c .at) (call-next r) (length (now (s .entry))) ⌝ }
     ensures spans { λ r. ⌜ call-spans (now (s .entry)) r ⌝ }
 {
     match reader::read_anchor(s, c) {
         AnchorRead::Value(anchor, next) => CallRead::Value(ListedCall::Install(anchor), next),
-        AnchorRead::Fault(n) => CallRead::Fault(n),
+        AnchorRead::Fault(n, place) => CallRead::Fault(n, place),
     }
 }
 
 // An advance's addresses and writes.
 fn read_lists(s: &[u8], child: ReadAnchor, parent_hash: U256, skip: u64, c: Cursor) -> CallRead
     requires { ⌜ c .at ≤ length (now s) ⌝ }
-    ensures reading { λ r. ⌜ Reading (call-answer (now (s .entry)) r) (parse-lists child «parent_hash» skip (drop (c .at) (now (s .entry)))) (c .at) (call-next (length (now (s .entry))) r) (length (now (s .entry))) ⌝ }
+    ensures reading { λ r. ⌜ Reading (call-answer (now (s .entry)) r) (parse-lists child «parent_hash» skip (drop (c .at) (now (s .entry)))) (c .at) (call-next r) (length (now (s .entry))) ⌝ }
     ensures spans { λ r. ⌜ call-spans (now (s .entry)) r ⌝ }
 {
     match reader::read_entries(s, 20, c) {
@@ -155,27 +155,27 @@ fn read_lists(s: &[u8], child: ReadAnchor, parent_hash: U256, skip: u64, c: Curs
                     next,
                 )
             }
-            SpanRead::Fault(n) => CallRead::Fault(n),
+            SpanRead::Fault(n, place) => CallRead::Fault(n, place),
         },
-        SpanRead::Fault(n) => CallRead::Fault(n),
+        SpanRead::Fault(n, place) => CallRead::Fault(n, place),
     }
 }
 
 // 3 advance: child, parent hash, skip, count and addresses, count and writes.
 fn read_advance(s: &[u8], c: Cursor) -> CallRead
     requires { ⌜ c .at ≤ length (now s) ⌝ }
-    ensures reading { λ r. ⌜ Reading (call-answer (now (s .entry)) r) (parse-advance (drop (c .at) (now (s .entry)))) (c .at) (call-next (length (now (s .entry))) r) (length (now (s .entry))) ⌝ }
+    ensures reading { λ r. ⌜ Reading (call-answer (now (s .entry)) r) (parse-advance (drop (c .at) (now (s .entry)))) (c .at) (call-next r) (length (now (s .entry))) ⌝ }
     ensures spans { λ r. ⌜ call-spans (now (s .entry)) r ⌝ }
 {
     match reader::read_anchor(s, c) {
         AnchorRead::Value(child, hash) => match reader::read_u256(s, hash) {
             Word::Value(parent_hash, number) => match reader::read_number(s, number) {
                 Number::Value(skip, lists) => read_lists(s, child, parent_hash, skip, lists),
-                Number::Fault(n) => CallRead::Fault(n),
+                Number::Fault(n, place) => CallRead::Fault(n, place),
             },
-            Word::Fault(n) => CallRead::Fault(n),
+            Word::Fault(n, place) => CallRead::Fault(n, place),
         },
-        AnchorRead::Fault(n) => CallRead::Fault(n),
+        AnchorRead::Fault(n, place) => CallRead::Fault(n, place),
     }
 }
 
@@ -196,34 +196,34 @@ fn slot_call(code: u8, slot: Slot) -> AnchoredCall
 // 4 look, 5 get, 7 read: a slot.
 fn read_slot_call(s: &[u8], code: u8, c: Cursor) -> AnchoredRead
     requires { ⌜ c .at ≤ length (now s) ⌝ }
-    ensures reading { λ r. ⌜ Reading (anchored-answer (now (s .entry)) r) (parse-with-slot (slot-call code) (drop (c .at) (now (s .entry)))) (c .at) (anchored-next (length (now (s .entry))) r) (length (now (s .entry))) ⌝ }
+    ensures reading { λ r. ⌜ Reading (anchored-answer (now (s .entry)) r) (parse-with-slot (slot-call code) (drop (c .at) (now (s .entry)))) (c .at) (anchored-next r) (length (now (s .entry))) ⌝ }
     ensures spans { λ r. ⌜ anchored-spans (now (s .entry)) r ⌝ }
 {
     match reader::read_slot(s, c) {
         SlotRead::Value(slot, next) => AnchoredRead::Value(slot_call(code, slot), next),
-        SlotRead::Fault(n) => AnchoredRead::Fault(n),
+        SlotRead::Fault(n, place) => AnchoredRead::Fault(n, place),
     }
 }
 
 // 6 put: slot, value.
 fn read_put(s: &[u8], c: Cursor) -> AnchoredRead
     requires { ⌜ c .at ≤ length (now s) ⌝ }
-    ensures reading { λ r. ⌜ Reading (anchored-answer (now (s .entry)) r) (parse-put (drop (c .at) (now (s .entry)))) (c .at) (anchored-next (length (now (s .entry))) r) (length (now (s .entry))) ⌝ }
+    ensures reading { λ r. ⌜ Reading (anchored-answer (now (s .entry)) r) (parse-put (drop (c .at) (now (s .entry)))) (c .at) (anchored-next r) (length (now (s .entry))) ⌝ }
     ensures spans { λ r. ⌜ anchored-spans (now (s .entry)) r ⌝ }
 {
     match reader::read_slot(s, c) {
         SlotRead::Value(slot, rest) => match reader::read_u256(s, rest) {
             Word::Value(value, next) => AnchoredRead::Value(AnchoredCall::Put(slot, value), next),
-            Word::Fault(n) => AnchoredRead::Fault(n),
+            Word::Fault(n, place) => AnchoredRead::Fault(n, place),
         },
-        SlotRead::Fault(n) => AnchoredRead::Fault(n),
+        SlotRead::Fault(n, place) => AnchoredRead::Fault(n, place),
     }
 }
 
 // An answer's slots: members, or those of a failed round.
 fn read_round(s: &[u8], failed: bool, c: Cursor) -> AnchoredRead
     requires { ⌜ c .at ≤ length (now s) ⌝ }
-    ensures reading { λ r. ⌜ Reading (anchored-answer (now (s .entry)) r) (parse-round failed (drop (c .at) (now (s .entry)))) (c .at) (anchored-next (length (now (s .entry))) r) (length (now (s .entry))) ⌝ }
+    ensures reading { λ r. ⌜ Reading (anchored-answer (now (s .entry)) r) (parse-round failed (drop (c .at) (now (s .entry)))) (c .at) (anchored-next r) (length (now (s .entry))) ⌝ }
     ensures spans { λ r. ⌜ anchored-spans (now (s .entry)) r ⌝ }
 {
     if failed {
@@ -232,7 +232,7 @@ fn read_round(s: &[u8], failed: bool, c: Cursor) -> AnchoredRead
                 AnchoredCall::AnswerFailed(slots),
                 next,
             ),
-            SpanRead::Fault(n) => AnchoredRead::Fault(n),
+            SpanRead::Fault(n, place) => AnchoredRead::Fault(n, place),
         }
     } else {
         match reader::read_members(s, c) {
@@ -240,7 +240,7 @@ fn read_round(s: &[u8], failed: bool, c: Cursor) -> AnchoredRead
                 AnchoredCall::Answer(members),
                 next,
             ),
-            SpanRead::Fault(n) => AnchoredRead::Fault(n),
+            SpanRead::Fault(n, place) => AnchoredRead::Fault(n, place),
         }
     }
 }
@@ -248,19 +248,19 @@ fn read_round(s: &[u8], failed: bool, c: Cursor) -> AnchoredRead
 // 9 answer: byte 0 members or 1 failed.
 fn read_answer(s: &[u8], c: Cursor) -> AnchoredRead
     requires { ⌜ c .at ≤ length (now s) ⌝ }
-    ensures reading { λ r. ⌜ Reading (anchored-answer (now (s .entry)) r) (parse-answer (drop (c .at) (now (s .entry)))) (c .at) (anchored-next (length (now (s .entry))) r) (length (now (s .entry))) ⌝ }
+    ensures reading { λ r. ⌜ Reading (anchored-answer (now (s .entry)) r) (parse-answer (drop (c .at) (now (s .entry)))) (c .at) (anchored-next r) (length (now (s .entry))) ⌝ }
     ensures spans { λ r. ⌜ anchored-spans (now (s .entry)) r ⌝ }
 {
     match reader::read_form(s, c) {
         Form::Value(failed, next) => read_round(s, failed, next),
-        Form::Fault(n) => AnchoredRead::Fault(n),
+        Form::Fault(n, place) => AnchoredRead::Fault(n, place),
     }
 }
 
 // What stands after the anchor, of the codes 4 to 9.
 fn read_rest(s: &[u8], code: u8, c: Cursor) -> AnchoredRead
     requires { ⌜ c .at ≤ length (now s) ⌝ }
-    ensures reading { λ r. ⌜ Reading (anchored-answer (now (s .entry)) r) (parse-rest code (drop (c .at) (now (s .entry)))) (c .at) (anchored-next (length (now (s .entry))) r) (length (now (s .entry))) ⌝ }
+    ensures reading { λ r. ⌜ Reading (anchored-answer (now (s .entry)) r) (parse-rest code (drop (c .at) (now (s .entry)))) (c .at) (anchored-next r) (length (now (s .entry))) ⌝ }
     ensures spans { λ r. ⌜ anchored-spans (now (s .entry)) r ⌝ }
 {
     if code == 6 {
@@ -277,7 +277,7 @@ fn read_rest(s: &[u8], code: u8, c: Cursor) -> AnchoredRead
 // 4 to 9: an anchor first, then the rest of the call.
 fn read_anchored(s: &[u8], code: u8, c: Cursor) -> CallRead
     requires { ⌜ c .at ≤ length (now s) ⌝ }
-    ensures reading { λ r. ⌜ Reading (call-answer (now (s .entry)) r) (parse-anchored (parse-rest code) (drop (c .at) (now (s .entry)))) (c .at) (call-next (length (now (s .entry))) r) (length (now (s .entry))) ⌝ }
+    ensures reading { λ r. ⌜ Reading (call-answer (now (s .entry)) r) (parse-anchored (parse-rest code) (drop (c .at) (now (s .entry)))) (c .at) (call-next r) (length (now (s .entry))) ⌝ }
     ensures spans { λ r. ⌜ call-spans (now (s .entry)) r ⌝ }
 {
     match reader::read_anchor(s, c) {
@@ -286,22 +286,22 @@ fn read_anchored(s: &[u8], code: u8, c: Cursor) -> CallRead
                 ListedCall::Anchored(anchor, call),
                 next,
             ),
-            AnchoredRead::Fault(n) => CallRead::Fault(n),
+            AnchoredRead::Fault(n, place) => CallRead::Fault(n, place),
         },
-        AnchorRead::Fault(n) => CallRead::Fault(n),
+        AnchorRead::Fault(n, place) => CallRead::Fault(n, place),
     }
 }
 
 // A call: its code, then its parts.
 pub fn read_call(s: &[u8], c: Cursor) -> CallRead
     requires { ⌜ c .at ≤ length (now s) ⌝ }
-    ensures reading { λ r. ⌜ Reading (call-answer (now (s .entry)) r) (parse-call (drop (c .at) (now (s .entry)))) (c .at) (call-next (length (now (s .entry))) r) (length (now (s .entry))) ⌝ }
-    ensures progress { λ r. ⌜ (c .at < length (now (s .entry)) → c .at < call-next (length (now (s .entry))) r) ⌝ }
+    ensures reading { λ r. ⌜ Reading (call-answer (now (s .entry)) r) (parse-call (drop (c .at) (now (s .entry)))) (c .at) (call-next r) (length (now (s .entry))) ⌝ }
+    ensures progress { λ r. ⌜ call-progress (c .at) r ⌝ }
     ensures spans { λ r. ⌜ call-spans (now (s .entry)) r ⌝ }
 {
     let at = c.at;
     if s.len() <= at {
-        return CallRead::Fault(5);
+        return CallRead::Fault(5, Cursor { at: s.len() });
     }
     let code = s[at];
     let next = Cursor { at: at + 1 };
@@ -310,6 +310,6 @@ pub fn read_call(s: &[u8], c: Cursor) -> CallRead
         2 => read_install(s, next),
         3 => read_advance(s, next),
         4..=9 => read_anchored(s, code, next),
-        _ => CallRead::Fault(3),
+        _ => CallRead::Fault(3, Cursor { at }),
     }
 }

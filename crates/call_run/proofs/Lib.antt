@@ -2,5 +2,6 @@
 pub mod Read
 pub mod Left
 pub mod Running
+pub mod Went
 pub mod Going
 pub mod Program

@@ -10,14 +10,14 @@ use Rattle.reader.specs.Answers.{Reading}
 use Rattle.call_reader.specs.declared.ListedCall.{ListedCall}
 use Rattle.call_reader.specs.declared.CallRead.{CallRead}
 use Rattle.call_reader.specs.declared.CallRead.the-variants.{Value, Fault}
-use Rattle.call_reader.specs.Calls.{call-of, call-answer, call-next, call-spans}
+use Rattle.call_reader.specs.Calls.{call-of, call-answer, call-next, call-progress, call-spans}
 use Rattle.call_steps.specs.Steps.{CallThere}
 
 -- What `read_call` says of its answer.
 abbrev pub ReadCall : List ℕ → ℕ → CallRead → Type 0
 ReadCall list at r =
-    Reading (call-answer list r) (parse-call (drop at list)) at (call-next (length list) r) (length list)
-    × (at < length list → at < call-next (length list) r)
+    Reading (call-answer list r) (parse-call (drop at list)) at (call-next r) (length list)
+    × call-progress at r
     × call-spans list r
 
 module _ (list : List ℕ) (at : ℕ) {r : CallRead} (h : ReadCall list at r) where
@@ -29,11 +29,17 @@ module _ (list : List ℕ) (at : ℕ) {r : CallRead} (h : ReadCall list at r) wh
     pub value-there : CallThere list x
     value-there = record { next = c .at; within = subst (λ (y : CallRead). call-spans list y) e (h .2) }
 
-    pub value-forward : at < length list → (at < c .at) × (c .at ≤ length list)
-    value-forward k =
-        let n : call-next (length list) r ≡ c .at = ap (call-next (length list)) e in
-        (omega (arith, h .1 k), omega (arith, h .0 .within))
+    pub value-forward : (at < c .at) × (c .at ≤ length list)
+    value-forward =
+        let n : call-next r ≡ c .at = ap call-next e in
+        (subst (λ (y : CallRead). call-progress at y) e (h .1), omega (arith, h .0 .within))
 
   -- A fault.
-  pub fault-parse : {n : ℕ} → r ≡ Fault n → fault n ≡ parse-call (drop at list)
-  fault-parse e = sym (ap (call-answer list) e) ∙ h .0 .means
+  module _ {n : ℕ} {c : Cursor} (e : r ≡ Fault n c) where
+    pub fault-parse : fault n (drop (c .at) list) ≡ parse-call (drop at list)
+    fault-parse = sym (ap (call-answer list) e) ∙ h .0 .means
+
+    pub fault-place : (at ≤ c .at) × (c .at ≤ length list)
+    fault-place =
+        let m : call-next r ≡ c .at = ap call-next e in
+        (omega (arith, h .0 .forward), omega (arith, h .0 .within))

@@ -142,15 +142,15 @@ ran-call w entries list b out t after out-after r c a entries-after f h go room 
     ended
 
 -- A fault, which ends the list.
-pub ran-fault : (w e : ℕ) (list b out : List ℕ) (t : Progress) (out-after : List ℕ) (n at : ℕ)
+pub ran-fault : (w e : ℕ) (list b out : List ℕ) (t : Progress) (out-after : List ℕ) (n place at : ℕ)
     → RunAt t list b out → t .ended ≡ false → t .at + 7237 ≤ length out
-    → fault n ≡ parse-call (drop (t .next) list)
+    → fault n (drop place list) ≡ parse-call (drop (t .next) list)
     → Written (t .at) (refusal-line n) out out-after at
-    → RunOn w e list t b out (record { next = length list; at = at; known = t .known; ended = true }) b out-after
-ran-fault w e list b out t out-after n at h go room parse wr =
+    → RunOn w e list t b out (record { next = length list; at = at; known = t .known; ended = true; broken = true; fault = n; place = place }) b out-after
+ran-fault w e list b out t out-after n place at h go room parse wr =
     let k : 0 < length (drop (t .next) list) = omega (arith, length-drop (t .next) list, not-ended list b out t h go) in
-    let calls = call-list-fault (drop (t .next) list) n k (sym parse) in
-    let r : Progress = record { next = length list; at = at; known = t .known; ended = true } in
+    let calls = call-list-fault (drop (t .next) list) n (drop place list) k (sym parse) in
+    let r : Progress = record { next = length list; at = at; known = t .known; ended = true; broken = true; fault = n; place = place } in
     ran-text w e list b out t b out-after r (refusal-line n) wr (omega (arith, refusal-line-length n)) go
     (append-nil (refusal-line n) ∙ sym (ap (bytes-listing w e b) calls ∙ listing-fault w e b n))
     (sym (ap (bytes-after-list w e b) calls ∙ after-end w e b (some n)))

@@ -4,7 +4,7 @@ ghost use mathlib.Core.Bool.{false, not, _&&_};
 ghost use Prim.Native.Nat.{_+_, _-_, _*_, _/_, _≤_, _<_};
 ghost use lib.Dec.{leb};
 ghost use lib.ListN.{length};
-ghost use Rattle.call_run.specs.Run.{too-short, RanAs, RunAt, RunOn};
+ghost use Rattle.call_run.specs.Run.{too-short, RanAs, RunAt, RunOn, Went};
 ghost use Rattle.call_run.specs.Program.{ProgramPrints};
 use call_reader::CallRead;
 use reader::Cursor;
@@ -12,18 +12,22 @@ use reader::Cursor;
 // The bytes that the lines of one call can take: a take of 64 slots.
 pub const CALL_LINES: usize = 7237;
 
-// Where a run is: the next call's place in the list, the next line's in the output, whether the bytes are a store, and whether the list has ended.
+// Where a run is: the next call's place in the list, the next line's in the output, whether the bytes are a store, whether the list has ended, whether a fault ended it, and that fault and its place.
 struct Progress {
     next: usize,
     at: usize,
     known: bool,
     ended: bool,
+    broken: bool,
+    fault: u64,
+    place: usize,
 }
 
-// A run's answer: 9, or the place of the next call, the bytes written and whether the list has ended.
+// A run's answer: 9; or the place of the next call, the bytes written and whether the list has ended; or the fault that ended the list, its place and the bytes written.
 pub enum Ran {
     No(u64),
     Listed(Cursor, usize, bool),
+    Broken(u64, Cursor, usize),
 }
 
 // One call and its lines.
@@ -39,6 +43,7 @@ fn run_call(
     requires { ⌜ RunAt t (now list) (now s) (now out) × (t .ended ≡ false) × (t .at + 7237 ≤ length (now out)) × (length (now list) / 53 * 85 ≤ length (now members)) ⌝ }
     ensures run { λ r. ⌜ RunOn (length (now (work .entry))) (length (now (entries .entry)) / 52) (now (list .entry)) t (now (s .entry)) (now (out .entry)) r (now (s .exit)) (now (out .exit)) ⌝ }
     ensures forward { λ r. ⌜ (t .next < r .next) × (r .next ≤ length (now (list .entry))) ⌝ }
+    ensures went { λ r. ⌜ Went (now (list .entry)) (t .next) r ⌝ }
 {
     match call_reader::read_call(list, Cursor { at: t.next }) {
         CallRead::Value(call, after) => {
@@ -49,13 +54,19 @@ fn run_call(
                 at,
                 known: call_steps::known_after(t.known, a),
                 ended: list.len() <= after.at,
+                broken: false,
+                fault: 0,
+                place: 0,
             }
         }
-        CallRead::Fault(n) => Progress {
+        CallRead::Fault(n, place) => Progress {
             next: list.len(),
             at: listing::refusal_line(out, t.at, n),
             known: t.known,
             ended: true,
+            broken: true,
+            fault: n,
+            place: place.at,
         },
     }
 }
@@ -81,9 +92,10 @@ fn run_calls(
     members: &mut [u8],
     out: &mut [u8],
 ) -> Progress
-    requires { ⌜ RunAt first (now list) (now s) (now out) × (length (now list) / 53 * 85 ≤ length (now members)) ⌝ }
+    requires { ⌜ RunAt first (now list) (now s) (now out) × (first .broken ≡ false) × (length (now list) / 53 * 85 ≤ length (now members)) ⌝ }
     ensures run { λ r. ⌜ RunOn (length (now (work .entry))) (length (now (entries .entry)) / 52) (now (list .entry)) first (now (s .entry)) (now (out .entry)) r (now (s .exit)) (now (out .exit)) ⌝ }
     ensures forward { λ r. ⌜ (first .at + 7237 ≤ length (now (out .entry)) → r .ended ≡ false → first .next < r .next) ⌝ }
+    ensures went { λ r. ⌜ Went (now (list .entry)) (first .next) r ⌝ }
 {
     let mut t = first;
     while goes_on(t, out) {
@@ -102,7 +114,7 @@ fn too_short(list: &[u8], members: &[u8], out: &[u8]) -> bool
     members.len() < list.len() / 53 * 85
 }
 
-// Runs a call list from a place on, until it ends or the output has no room for another call's lines. The bytes are checked once.
+// Runs a call list from a place on, until it ends or the output has no room for another call's lines. The bytes are checked once. What `work`, `entries` and `members` hold after it is free.
 pub fn run(
     list: &[u8],
     from: Cursor,
@@ -122,8 +134,14 @@ pub fn run(
         at: 0,
         known: check_store::is_store(s),
         ended: list.len() <= from.at,
+        broken: false,
+        fault: 0,
+        place: 0,
     };
     let last = run_calls(list, first, s, work, entries, members, out);
+    if last.broken {
+        return Ran::Broken(last.fault, Cursor { at: last.place }, last.at);
+    }
     Ran::Listed(Cursor { at: last.next }, last.at, last.ended)
 }
 

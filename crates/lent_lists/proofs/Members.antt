@@ -30,12 +30,12 @@ use Rattle.lent_lists.proofs.Entries.{chunks-snoc, chunks-lent}
 -- What was read after another was read from the bytes that the other left.
 then-read : {A B P : Type 0} (p : Parsed A) (f : A → List ℕ → Parsed B) (b : B) (r : List ℕ) → then p f ≡ parsed b r → ((a : A) (q : List ℕ) → p ≡ parsed a q → f a q ≡ parsed b r → P) → P
 then-read (parsed a q) f b r e go = go a q refl e
-then-read (fault n) f b r e go = let z : _≡_ {A = ℕ} 0 1 = cc in absurd (omega arith)
+then-read (fault n q) f b r e go = let z : _≡_ {A = ℕ} 0 1 = cc in absurd (omega arith)
 
 bytes-read : (n : ℕ) (l b r : List ℕ) → parse-bytes n l ≡ parsed b r → (n ≤ length l) × (r ≡ drop n l)
 bytes-read n l b r e = by (leb n (length l)) refl e
   where
-    by : (k : Bool) → leb n (length l) ≡ k → cond k (parsed (take n l) (drop n l)) (fault 5) ≡ parsed b r → (n ≤ length l) × (r ≡ drop n l)
+    by : (k : Bool) → leb n (length l) ≡ k → cond k (parsed (take n l) (drop n l)) (fault 5 []) ≡ parsed b r → (n ≤ length l) × (r ≡ drop n l)
     by true t g = (leb-true n (length l) t, cc)
     by false t g = let z : _≡_ {A = ℕ} 0 1 = cc in absurd (omega arith)
 
@@ -53,7 +53,7 @@ unfolding parse-form
 form-read [] f r e = let z : _≡_ {A = ℕ} 0 1 = cc in absurd (omega arith)
 form-read (b ∷ l) f r e = by (ltb 1 b) e
   where
-    by : (k : Bool) → cond k (fault 3) (parsed (eqb b 1) l) ≡ parsed f r → (1 ≤ length (b ∷ l)) × (f ≡ eqb b 1) × (r ≡ l)
+    by : (k : Bool) → cond k (fault 3 (b ∷ l)) (parsed (eqb b 1) l) ≡ parsed f r → (1 ≤ length (b ∷ l)) × (f ≡ eqb b 1) × (r ≡ l)
     by true g = let z : _≡_ {A = ℕ} 0 1 = cc in absurd (omega arith)
     by false g = (omega arith, cc, cc)
 

@@ -18,7 +18,7 @@ reading-then f v w =
     record { means = w .means ∙ ap (λ q. then q f) (v .means); forward = omega (arith, v .forward, w .forward); within = w .within }
 
 -- nothing follows a fault
-pub reading-stop : {A B : Type 0} {n : ℕ} {p : Parsed A} {at next end : ℕ} (f : A → List ℕ → Parsed B) → Reading (fault n) p at next end → Reading (fault n) (then p f) at next end
+pub reading-stop : {A B : Type 0} {n : ℕ} {l : List ℕ} {p : Parsed A} {at next end : ℕ} (f : A → List ℕ → Parsed B) → Reading (fault n l) p at next end → Reading (fault n l) (then p f) at next end
 reading-stop f v = record { means = ap (λ q. then q f) (v .means); forward = v .forward; within = v .within }
 
 -- a thing made of what was read last

@@ -17,7 +17,7 @@ use Rattle.call_list.specs.CallList.{Parsed, parsed, fault, then, parse-number,
 use Rattle.model.specs.Entries.{u256-at, slot-of}
 use Rattle.reader.specs.Answers.{Reading, Run, entries, members, member-of, member-size, fixed-run, past-value, past-members, member-run, parse-run}
 use Rattle.words.specs.Parts.{part}
-use Rattle.reader.proofs.Bytes.{fixed}
+use Rattle.reader.proofs.Bytes.{fixed, at-end}
 use Rattle.reader.proofs.Chain.{reading-as, reading-map, reading-stop}
 
 split : {P : Type 0} (b : Bool) → (b ≡ true → P) → (b ≡ false → P) → P
@@ -30,25 +30,25 @@ module _ (w n at : ℕ) (s : List ℕ) (p : 0 < w) where
   pub run-fits : n ≤ (length s - at) / w → n * w ≤ length s - at
   run-fits h = le-div-iff-mul-le p .0 h
 
-  pub run-end : (length s - at) / w < n → fixed-run w n (drop at s) ≡ fault 5
+  pub run-end : (length s - at) / w < n → fixed-run w n (drop at s) ≡ fault 5 (drop (length s) s)
   run-end h =
       let k : length s - at < n * w = div-lt-iff-lt-mul p .0 h in
       let e : leb (n * w) (length (drop at s)) ≡ false = lt-leb (n * w) (length (drop at s)) (simp length-drop k) in
-      ap (λ (b : Bool). cond b (parsed (record { count = n; bytes = drop at s }) (drop (n * w) (drop at s))) (fault 5)) e
+      ap (λ (b : Bool). cond b (parsed (record { count = n; bytes = drop at s }) (drop (n * w) (drop at s))) (fault 5 [])) e ∙ sym (at-end s)
 
   pub run-there : n ≤ (length s - at) / w → fixed-run w n (drop at s) ≡ parsed (record { count = n; bytes = drop at s }) (drop (at + n * w) s)
   run-there h =
       let k : n * w ≤ length s - at = run-fits h in
       let e : leb (n * w) (length (drop at s)) ≡ true = le-leb (n * w) (length (drop at s)) (simp length-drop k) in
-      ap (λ (b : Bool). cond b (parsed (record { count = n; bytes = drop at s }) (drop (n * w) (drop at s))) (fault 5)) e
+      ap (λ (b : Bool). cond b (parsed (record { count = n; bytes = drop at s }) (drop (n * w) (drop at s))) (fault 5 [])) e
       ∙ ap (parsed (record { count = n; bytes = drop at s })) (drop-drop (n * w) at s)
 
 module _ {A : Type 0} (f : List ℕ → A) (w : ℕ) where
   one-there : (l : List ℕ) → w ≤ length l → fixed f w l ≡ parsed (f (take w l)) (drop w l)
-  one-there l h = ap (λ (b : Bool). then (cond b (parsed (take w l) (drop w l)) (fault 5)) (λ b r. parsed (f b) r)) (le-leb w (length l) h)
+  one-there l h = ap (λ (b : Bool). then (cond b (parsed (take w l) (drop w l)) (fault 5 [])) (λ b r. parsed (f b) r)) (le-leb w (length l) h)
 
-  one-end : (l : List ℕ) → length l < w → fixed f w l ≡ fault 5
-  one-end l h = ap (λ (b : Bool). then (cond b (parsed (take w l) (drop w l)) (fault 5)) (λ b r. parsed (f b) r)) (lt-leb w (length l) h)
+  one-end : (l : List ℕ) → length l < w → fixed f w l ≡ fault 5 []
+  one-end l h = ap (λ (b : Bool). then (cond b (parsed (take w l) (drop w l)) (fault 5 [])) (λ b r. parsed (f b) r)) (lt-leb w (length l) h)
 
   entries-there : (n : ℕ) (l : List ℕ) → n * w ≤ length l → parse-entries (fixed f w) n l ≡ parsed (entries f w n l) (drop (n * w) l)
   unfolding parse-entries entries
@@ -61,7 +61,7 @@ module _ {A : Type 0} (f : List ℕ → A) (w : ℕ) where
       ∙ ap (λ q. then q (λ rest t. parsed (f (take w l) ∷ rest) t)) ih
       ∙ ap (parsed (f (take w l) ∷ entries f w n (drop w l))) (drop-drop (n * w) w l ∙ ap (λ (k : ℕ). drop k l) g)
 
-  entries-end : (n : ℕ) (l : List ℕ) → length l < n * w → parse-entries (fixed f w) n l ≡ fault 5
+  entries-end : (n : ℕ) (l : List ℕ) → length l < n * w → parse-entries (fixed f w) n l ≡ fault 5 []
   unfolding parse-entries
   entries-end zero l h = absurd (omega (arith, zero-mul w))
   entries-end (suc n) l h =
@@ -69,7 +69,7 @@ module _ {A : Type 0} (f : List ℕ → A) (w : ℕ) where
       split (leb w (length l))
       (λ t.
       let k : w ≤ length l = leb-true w (length l) t in
-      let ih : parse-entries (fixed f w) n (drop w l) ≡ fault 5 = entries-end n (drop w l) (simp length-drop (omega arith)) in
+      let ih : parse-entries (fixed f w) n (drop w l) ≡ fault 5 [] = entries-end n (drop w l) (simp length-drop (omega arith)) in
       ap (λ q. then q (λ a r. then (parse-entries (fixed f w) n r) (λ rest t. parsed (a ∷ rest) t))) (one-there l k)
       ∙ ap (λ q. then q (λ rest t. parsed (f (take w l) ∷ rest) t)) ih)
       (λ t.
@@ -82,14 +82,14 @@ module _ {A : Type 0} (f : List ℕ → A) (w : ℕ) where
   entries-run n l =
       split (leb (n * w) (length l))
       (λ t.
-      ap (λ (b : Bool). then (cond b (parsed (record { count = n; bytes = l }) (drop (n * w) l)) (fault 5)) (λ t r. parsed (of-run t) r)) t
+      ap (λ (b : Bool). then (cond b (parsed (record { count = n; bytes = l }) (drop (n * w) l)) (fault 5 [])) (λ t r. parsed (of-run t) r)) t
       ∙ sym (entries-there n l (leb-true (n * w) (length l) t)))
       (λ t.
-      ap (λ (b : Bool). then (cond b (parsed (record { count = n; bytes = l }) (drop (n * w) l)) (fault 5)) (λ t r. parsed (of-run t) r)) t
+      ap (λ (b : Bool). then (cond b (parsed (record { count = n; bytes = l }) (drop (n * w) l)) (fault 5 [])) (λ t r. parsed (of-run t) r)) t
       ∙ sym (entries-end n l (leb-false (n * w) (length l) t)))
 
   counted : (p : Parsed ℕ) → then (then p (λ n r. fixed-run w n r)) (λ t r. parsed (of-run t) r) ≡ then p (λ n r. parse-entries (fixed f w) n r)
-  counted (fault k) = refl
+  counted (fault k q) = refl
   counted (parsed n l) = entries-run n l
 
   -- a list of entries, by its run
@@ -97,8 +97,8 @@ module _ {A : Type 0} (f : List ℕ → A) (w : ℕ) where
       → Reading (parsed t r) (parse-run (fixed-run w) l) at next end → Reading (parsed (of-run t) r) (parse-list (fixed f w) l) at next end
   reading-list l v = reading-as (counted (parse-number l)) (reading-map of-run v)
 
-  pub reading-list-stop : {n at next end : ℕ} (l : List ℕ)
-      → Reading (fault n) (parse-run (fixed-run w) l) at next end → Reading (fault n) (parse-list (fixed f w) l) at next end
+  pub reading-list-stop : {n at next end : ℕ} {q : List ℕ} (l : List ℕ)
+      → Reading (fault n q) (parse-run (fixed-run w) l) at next end → Reading (fault n q) (parse-list (fixed f w) l) at next end
   reading-list-stop l v = reading-as (counted (parse-number l)) (reading-stop (λ t r. parsed (of-run t) r) v)
 
 -- the first of the entries from a place on, and those after it
@@ -125,15 +125,15 @@ after-slot x r = then (parse-form r) (after-form x)
 
 -- past one member, part by part
 past-outcome : (x : Slot) (p : Parsed (Option U256)) → then p nothing ≡ then (then p (after-outcome x)) nothing
-past-outcome x (fault n) = refl
+past-outcome x (fault n q) = refl
 past-outcome x (parsed o r) = refl
 
 past-form : (x : Slot) (p : Parsed Bool) → then p past-value ≡ then (then p (after-form x)) nothing
-past-form x (fault n) = refl
+past-form x (fault n q) = refl
 past-form x (parsed f q) = past-outcome x (parse-outcome f q)
 
 past-slot : (p : Parsed Slot) → then p (λ x r. then (parse-form r) past-value) ≡ then (then p after-slot) nothing
-past-slot (fault n) = refl
+past-slot (fault n q) = refl
 past-slot (parsed x r) = past-form x (parse-form r)
 
 pub past-one : (l : List ℕ) → then (parse-slot l) (λ x r. then (parse-form r) past-value) ≡ past-members 1 l
@@ -142,7 +142,7 @@ past-one l = past-slot (parse-slot l)
 
 -- a turn of the loop
 flat : (j : ℕ) (p : Parsed Member) → then p (λ m r. past-members j r) ≡ then (then p nothing) (λ z r. past-members j r)
-flat j (fault n) = refl
+flat j (fault n q) = refl
 flat j (parsed m r) = refl
 
 pub past-turn : (k j : ℕ) (l : List ℕ) → k ≡ suc j → past-members k l ≡ then (past-members 1 l) (λ z r. past-members j r)
@@ -150,7 +150,7 @@ unfolding past-members
 past-turn k j l e = ap (λ (n : ℕ). past-members n l) e ∙ flat j (parse-member l)
 
 -- A member is one that stands at the list's start, or a fault.
-module _ {P : Type 0} (l : List ℕ) (yes : parse-member l ≡ parsed (member-of l) (drop (member-size l) l) → P) (no : (n : ℕ) → parse-member l ≡ fault n → P) where
+module _ {P : Type 0} (l : List ℕ) (yes : parse-member l ≡ parsed (member-of l) (drop (member-size l) l) → P) (no : (n : ℕ) (r : List ℕ) → parse-member l ≡ fault n r → P) where
   abbrev stands : Bool → Parsed Member
   stands k = parsed (record { slot = slot-of (take 52 l); outcome = cond k (some (u256-at 0 (take 32 (drop 53 l)))) none }) (drop (cond k 85 53) l)
 
@@ -166,8 +166,8 @@ module _ {P : Type 0} (l : List ℕ) (yes : parse-member l ≡ parsed (member-of
       ∙ ap (parsed (record { slot = slot-of (take 52 l); outcome = some (u256-at 0 (take 32 (drop 53 l))) })) (drop-drop 32 53 l)
       ∙ ap stands (sym f)))
       (λ t.
-      let p : parse-u256 q ≡ fault 5 = one-end (u256-at 0) 32 q (leb-false 32 (length q) t) in
-      no 5 (m ∙ ap (λ z. then (then z (λ v r. parsed (some v) r)) (after-outcome (slot-of (take 52 l)))) p))
+      let p : parse-u256 q ≡ fault 5 [] = one-end (u256-at 0) 32 q (leb-false 32 (length q) t) in
+      no 5 [] (m ∙ ap (λ z. then (then z (λ v r. parsed (some v) r)) (after-outcome (slot-of (take 52 l)))) p))
 
   with-form : (b : ℕ) (q : List ℕ) → getD l 52 0 ≡ b → drop 53 l ≡ q → parse-member l ≡ then (parse-outcome (eqb b 1) q) (after-outcome (slot-of (take 52 l))) → P
   with-form b q eb eq m =
@@ -182,23 +182,23 @@ module _ {P : Type 0} (l : List ℕ) (yes : parse-member l ≡ parsed (member-of
 
   with-slot : (q : List ℕ) → drop 52 l ≡ q → parse-member l ≡ then (parse-form q) (after-form (slot-of (take 52 l))) → P
   unfolding parse-form
-  with-slot [] e m = no 5 m
+  with-slot [] e m = no 5 [] m
   with-slot (b ∷ q) e m =
       split (ltb 1 b)
-      (λ t. no 3 (m ∙ ap (λ (k : Bool). then (cond k (fault 3) (parsed (eqb b 1) q)) (after-form (slot-of (take 52 l)))) t))
+      (λ t. no 3 (b ∷ q) (m ∙ ap (λ (k : Bool). then (cond k (fault 3 (b ∷ q)) (parsed (eqb b 1) q)) (after-form (slot-of (take 52 l)))) t))
       (λ t.
       with-form b q (sym (getD-drop 52 l 0 0) ∙ ap (λ (z : List ℕ). getD z 0 0) e) (sym (drop-drop 1 52 l) ∙ ap (drop 1) e)
-      (m ∙ ap (λ (k : Bool). then (cond k (fault 3) (parsed (eqb b 1) q)) (after-form (slot-of (take 52 l)))) t))
+      (m ∙ ap (λ (k : Bool). then (cond k (fault 3 (b ∷ q)) (parsed (eqb b 1) q)) (after-form (slot-of (take 52 l)))) t))
 
   member-cases : P
   member-cases =
       split (leb 52 (length l))
       (λ t. with-slot (drop 52 l) refl (ap (λ z. then z after-slot) (one-there slot-of 52 l (leb-true 52 (length l) t))))
-      (λ t. no 5 (ap (λ z. then z after-slot) (one-end slot-of 52 l (leb-false 52 (length l) t))))
+      (λ t. no 5 [] (ap (λ z. then z after-slot) (one-end slot-of 52 l (leb-false 52 (length l) t))))
 
 -- the members of a run
 one-more : (m : Member) (ms : List Member) (p : Parsed ℕ) → then p (λ z r. parsed (m ∷ ms) r) ≡ then (then p (λ z r. parsed ms r)) (λ rest r. parsed (m ∷ rest) r)
-one-more m ms (fault n) = refl
+one-more m ms (fault n q) = refl
 one-more m ms (parsed z r) = refl
 
 abbrev add-member : ℕ → Member → List ℕ → Parsed (List Member)
@@ -216,18 +216,18 @@ members-past (suc n) l =
     ∙ one-more (member-of l) (members n r) (past-members n r)
     ∙ ap (λ p. then p (λ rest q. parsed (member-of l ∷ rest) q)) ih
     ∙ sym (ap (λ p. then p (add-member n)) e))
-    (λ k e. ap (λ p. then (then p (λ m q. past-members n q)) (λ z q. parsed (member-of l ∷ members n r) q)) e ∙ sym (ap (λ p. then p (add-member n)) e))
+    (λ k x e. ap (λ p. then (then p (λ m q. past-members n q)) (λ z q. parsed (member-of l ∷ members n r) q)) e ∙ sym (ap (λ p. then p (add-member n)) e))
 
 abbrev members-of : Run → List Member
 members-of t = members (t .count) (t .bytes)
 
 of-members : (n : ℕ) (l : List ℕ) (p : Parsed ℕ)
     → then (then p (λ z r. parsed (record { count = n; bytes = l }) r)) (λ (t : Run) r. parsed (members-of t) r) ≡ then p (λ z r. parsed (members n l) r)
-of-members n l (fault k) = refl
+of-members n l (fault k q) = refl
 of-members n l (parsed z r) = refl
 
 counted-members : (p : Parsed ℕ) → then (then p member-run) (λ t r. parsed (members-of t) r) ≡ then p (λ n r. parse-entries parse-member n r)
-counted-members (fault k) = refl
+counted-members (fault k q) = refl
 counted-members (parsed n l) = of-members n l (past-members n l) ∙ members-past n l
 
 -- a list of members, by its run
@@ -235,8 +235,8 @@ pub reading-members : {t : Run} {r : List ℕ} {at next end : ℕ} (l : List ℕ
     → Reading (parsed t r) (parse-run member-run l) at next end → Reading (parsed (members-of t) r) (parse-list parse-member l) at next end
 reading-members l v = reading-as (counted-members (parse-number l)) (reading-map members-of v)
 
-pub reading-members-stop : {n at next end : ℕ} (l : List ℕ)
-    → Reading (fault n) (parse-run member-run l) at next end → Reading (fault n) (parse-list parse-member l) at next end
+pub reading-members-stop : {n at next end : ℕ} {q : List ℕ} (l : List ℕ)
+    → Reading (fault n q) (parse-run member-run l) at next end → Reading (fault n q) (parse-list parse-member l) at next end
 reading-members-stop l v = reading-as (counted-members (parse-number l)) (reading-stop (λ t r. parsed (members-of t) r) v)
 
 -- the first of the members from a place on, and those after it

@@ -30,7 +30,7 @@ use Rattle.reader.specs.declared.SpanRead.the-variants as span
 use Rattle.reader.specs.declared.Passed.{Passed}
 use Rattle.reader.specs.declared.Passed.the-variants as passed
 
--- What was read is what the definition reads; the next place is not before the one that was read at, nor past the list's end.
+-- What was read is what the definition reads; the next place, or the fault's, is not before the one that was read at, nor past the list's end.
 pub record Reading {A : Type 0} (got want : Parsed A) (at next end : ℕ) : Type 0 where
   pub means : got ≡ want
   pub forward : at ≤ next
@@ -82,7 +82,7 @@ members-at s p = members (p .count) (drop (p .start) s)
 
 -- A run of n entries of w bytes each: it ends where they end, or the list ends before.
 abbrev pub fixed-run : ℕ → ℕ → List ℕ → Parsed Run
-fixed-run w n l = cond (leb (n * w) (length l)) (parsed (record { count = n; bytes = l }) (drop (n * w) l)) (fault 5)
+fixed-run w n l = cond (leb (n * w) (length l)) (parsed (record { count = n; bytes = l }) (drop (n * w) l)) (fault 5 [])
 
 -- Past a member's value, if its form byte says that there is one; past n members. 0 stands for nothing.
 abbrev pub past-value : Bool → List ℕ → Parsed ℕ
@@ -102,71 +102,71 @@ parse-run f l = then (parse-number l) (λ n r. f n r)
 
 -- Answers ---------------------------------------------------------------------------------------------
 
--- Each answer: what was read and the bytes after it, or a fault. Then its next place, which of a fault is the list's end.
+-- Each answer: what was read and the bytes after it, or a fault and the bytes from its place on. Then the place after what was read, or the fault's.
 abbrev pub number-answer : List ℕ → Number → Parsed ℕ
 number-answer s (number.Value x c) = parsed x (drop (c .at) s)
-number-answer s (number.Fault n) = fault n
+number-answer s (number.Fault n c) = fault n (drop (c .at) s)
 
-abbrev pub number-next : ℕ → Number → ℕ
-number-next end (number.Value x c) = c .at
-number-next end (number.Fault n) = end
+abbrev pub number-next : Number → ℕ
+number-next (number.Value x c) = c .at
+number-next (number.Fault n c) = c .at
 
 abbrev pub form-answer : List ℕ → Form → Parsed Bool
 form-answer s (form.Value x c) = parsed x (drop (c .at) s)
-form-answer s (form.Fault n) = fault n
+form-answer s (form.Fault n c) = fault n (drop (c .at) s)
 
-abbrev pub form-next : ℕ → Form → ℕ
-form-next end (form.Value x c) = c .at
-form-next end (form.Fault n) = end
+abbrev pub form-next : Form → ℕ
+form-next (form.Value x c) = c .at
+form-next (form.Fault n c) = c .at
 
 abbrev pub word-answer : List ℕ → Word → Parsed U256
 word-answer s (word.Value x c) = parsed x (drop (c .at) s)
-word-answer s (word.Fault n) = fault n
+word-answer s (word.Fault n c) = fault n (drop (c .at) s)
 
-abbrev pub word-next : ℕ → Word → ℕ
-word-next end (word.Value x c) = c .at
-word-next end (word.Fault n) = end
+abbrev pub word-next : Word → ℕ
+word-next (word.Value x c) = c .at
+word-next (word.Fault n c) = c .at
 
 abbrev pub slot-answer : List ℕ → SlotRead → Parsed Slot
 slot-answer s (slot.Value x c) = parsed x (drop (c .at) s)
-slot-answer s (slot.Fault n) = fault n
+slot-answer s (slot.Fault n c) = fault n (drop (c .at) s)
 
-abbrev pub slot-next : ℕ → SlotRead → ℕ
-slot-next end (slot.Value x c) = c .at
-slot-next end (slot.Fault n) = end
+abbrev pub slot-next : SlotRead → ℕ
+slot-next (slot.Value x c) = c .at
+slot-next (slot.Fault n c) = c .at
 
 abbrev pub anchor-answer : List ℕ → AnchorRead → Parsed ReadAnchor
 anchor-answer s (anchor.Value x c) = parsed x (drop (c .at) s)
-anchor-answer s (anchor.Fault n) = fault n
+anchor-answer s (anchor.Fault n c) = fault n (drop (c .at) s)
 
-abbrev pub anchor-next : ℕ → AnchorRead → ℕ
-anchor-next end (anchor.Value x c) = c .at
-anchor-next end (anchor.Fault n) = end
+abbrev pub anchor-next : AnchorRead → ℕ
+anchor-next (anchor.Value x c) = c .at
+anchor-next (anchor.Fault n c) = c .at
 
 abbrev pub span-answer : List ℕ → SpanRead → Parsed Run
 span-answer s (span.Value x c) = parsed (run-at s x) (drop (c .at) s)
-span-answer s (span.Fault n) = fault n
+span-answer s (span.Fault n c) = fault n (drop (c .at) s)
 
-abbrev pub span-next : ℕ → SpanRead → ℕ
-span-next end (span.Value x c) = c .at
-span-next end (span.Fault n) = end
+abbrev pub span-next : SpanRead → ℕ
+span-next (span.Value x c) = c .at
+span-next (span.Fault n c) = c .at
 
 abbrev pub passed-answer : List ℕ → Passed → Parsed ℕ
 passed-answer s (passed.Value c) = parsed 0 (drop (c .at) s)
-passed-answer s (passed.Fault n) = fault n
+passed-answer s (passed.Fault n c) = fault n (drop (c .at) s)
 
-abbrev pub passed-next : ℕ → Passed → ℕ
-passed-next end (passed.Value c) = c .at
-passed-next end (passed.Fault n) = end
+abbrev pub passed-next : Passed → ℕ
+passed-next (passed.Value c) = c .at
+passed-next (passed.Fault n c) = c .at
 
 -- Where the entries of a span stand: within the list, with the places past members leading to the next place.
 abbrev pub entries-within : ℕ → ℕ → SpanRead → Type 0
 entries-within w end (span.Value p c) = p .start + p .count * w ≤ end
-entries-within w end (span.Fault n) = Unit {0}
+entries-within w end (span.Fault n c) = Unit {0}
 
 abbrev pub MembersWithin : List ℕ → Span → ℕ → Type 0
 MembersWithin s p next = (p .start ≤ length s) × (past-members (p .count) (drop (p .start) s) ≡ parsed 0 (drop next s))
 
 abbrev pub members-within : List ℕ → SpanRead → Type 0
 members-within s (span.Value p c) = MembersWithin s p (c .at)
-members-within s (span.Fault n) = Unit {0}
+members-within s (span.Fault n c) = Unit {0}

@@ -20,34 +20,34 @@ pub struct Cursor {
     pub at: usize,
 }
 
-// A number that was read, and the place after it; or a fault.
+// A number that was read, and the place after it; or a fault and its place.
 pub enum Number {
     Value(u64, Cursor),
-    Fault(u64),
+    Fault(u64, Cursor),
 }
 
 // A form byte that was read: whether it is 1.
 pub enum Form {
     Value(bool, Cursor),
-    Fault(u64),
+    Fault(u64, Cursor),
 }
 
 // A 32-byte number that was read.
 pub enum Word {
     Value(U256, Cursor),
-    Fault(u64),
+    Fault(u64, Cursor),
 }
 
 // A slot that was read.
 pub enum SlotRead {
     Value(Slot, Cursor),
-    Fault(u64),
+    Fault(u64, Cursor),
 }
 
 // An anchor that was read.
 pub enum AnchorRead {
     Value(ReadAnchor, Cursor),
-    Fault(u64),
+    Fault(u64, Cursor),
 }
 
 // Entries that stand one after the other: the place of the first, and how many.
@@ -59,13 +59,13 @@ pub struct Span {
 // Entries that were passed.
 pub enum SpanRead {
     Value(Span, Cursor),
-    Fault(u64),
+    Fault(u64, Cursor),
 }
 
 // The place past members of an answer.
 pub enum Passed {
     Value(Cursor),
-    Fault(u64),
+    Fault(u64, Cursor),
 }
 
 fn wide(x: u8) -> u64
@@ -84,22 +84,22 @@ fn overlong(b: u64, worth: u64) -> bool
 // The tenth byte of a number, which is 1 or a fault.
 fn read_tenth(s: &[u8], at: usize, worth: u64, sum: u64) -> Number
     requires { ⌜ (at ≤ length (now s)) × (worth ≡ 9223372036854775808) × (sum < worth) ⌝ }
-    ensures { λ r. ⌜ Reading (number-answer (now (s .entry)) r) (number-from 0 worth sum (drop at (now (s .entry)))) at (number-next (length (now (s .entry))) r) (length (now (s .entry))) ⌝ }
+    ensures { λ r. ⌜ Reading (number-answer (now (s .entry)) r) (number-from 0 worth sum (drop at (now (s .entry)))) at (number-next r) (length (now (s .entry))) ⌝ }
 {
     if s.len() <= at {
-        return Number::Fault(5);
+        return Number::Fault(5, Cursor { at: s.len() });
     }
     if s[at] == 1 {
         Number::Value(sum + worth, Cursor { at: at + 1 })
     } else {
-        Number::Fault(4)
+        Number::Fault(4, Cursor { at })
     }
 }
 
 // A number, in groups of seven bits, lowest first; the byte plus 128 where another follows.
 pub fn read_number(s: &[u8], c: Cursor) -> Number
     requires { ⌜ c .at ≤ length (now s) ⌝ }
-    ensures { λ r. ⌜ Reading (number-answer (now (s .entry)) r) (parse-number (drop (c .at) (now (s .entry)))) (c .at) (number-next (length (now (s .entry))) r) (length (now (s .entry))) ⌝ }
+    ensures { λ r. ⌜ Reading (number-answer (now (s .entry)) r) (parse-number (drop (c .at) (now (s .entry)))) (c .at) (number-next r) (length (now (s .entry))) ⌝ }
 {
     let mut at = c.at;
     let mut left: usize = 9;
@@ -107,19 +107,19 @@ pub fn read_number(s: &[u8], c: Cursor) -> Number
     let mut sum: u64 = 0;
     while 0 < left {
         if s.len() <= at {
-            return Number::Fault(5);
+            return Number::Fault(5, Cursor { at: s.len() });
         }
         let b = wide(s[at]);
-        at += 1;
         if b < 128 {
             if overlong(b, worth) {
-                return Number::Fault(4);
+                return Number::Fault(4, Cursor { at });
             }
-            return Number::Value(sum + worth * b, Cursor { at });
+            return Number::Value(sum + worth * b, Cursor { at: at + 1 });
         }
         sum += worth * (b - 128);
         worth *= 128;
         left -= 1;
+        at += 1;
     }
     read_tenth(s, at, worth, sum)
 }
@@ -127,15 +127,15 @@ pub fn read_number(s: &[u8], c: Cursor) -> Number
 // A form byte: 0 or 1, else fault 3.
 pub fn read_form(s: &[u8], c: Cursor) -> Form
     requires { ⌜ c .at ≤ length (now s) ⌝ }
-    ensures { λ r. ⌜ Reading (form-answer (now (s .entry)) r) (parse-form (drop (c .at) (now (s .entry)))) (c .at) (form-next (length (now (s .entry))) r) (length (now (s .entry))) ⌝ }
+    ensures { λ r. ⌜ Reading (form-answer (now (s .entry)) r) (parse-form (drop (c .at) (now (s .entry)))) (c .at) (form-next r) (length (now (s .entry))) ⌝ }
 {
     let at = c.at;
     if s.len() <= at {
-        return Form::Fault(5);
+        return Form::Fault(5, Cursor { at: s.len() });
     }
     let b = s[at];
     if 1 < b {
-        return Form::Fault(3);
+        return Form::Fault(3, Cursor { at });
     }
     Form::Value(b == 1, Cursor { at: at + 1 })
 }
@@ -179,11 +179,11 @@ pub fn slot_at(s: &[u8], at: usize) -> Slot
 // A 32-byte number.
 pub fn read_u256(s: &[u8], c: Cursor) -> Word
     requires { ⌜ c .at ≤ length (now s) ⌝ }
-    ensures { λ r. ⌜ Reading (word-answer (now (s .entry)) r) (parse-u256 (drop (c .at) (now (s .entry)))) (c .at) (word-next (length (now (s .entry))) r) (length (now (s .entry))) ⌝ }
+    ensures { λ r. ⌜ Reading (word-answer (now (s .entry)) r) (parse-u256 (drop (c .at) (now (s .entry)))) (c .at) (word-next r) (length (now (s .entry))) ⌝ }
 {
     let at = c.at;
     if s.len() - at < 32 {
-        return Word::Fault(5);
+        return Word::Fault(5, Cursor { at: s.len() });
     }
     Word::Value(u256_at(s, at), Cursor { at: at + 32 })
 }
@@ -191,11 +191,11 @@ pub fn read_u256(s: &[u8], c: Cursor) -> Word
 // A slot.
 pub fn read_slot(s: &[u8], c: Cursor) -> SlotRead
     requires { ⌜ c .at ≤ length (now s) ⌝ }
-    ensures { λ r. ⌜ Reading (slot-answer (now (s .entry)) r) (parse-slot (drop (c .at) (now (s .entry)))) (c .at) (slot-next (length (now (s .entry))) r) (length (now (s .entry))) ⌝ }
+    ensures { λ r. ⌜ Reading (slot-answer (now (s .entry)) r) (parse-slot (drop (c .at) (now (s .entry)))) (c .at) (slot-next r) (length (now (s .entry))) ⌝ }
 {
     let at = c.at;
     if s.len() - at < 52 {
-        return SlotRead::Fault(5);
+        return SlotRead::Fault(5, Cursor { at: s.len() });
     }
     SlotRead::Value(slot_at(s, at), Cursor { at: at + 52 })
 }
@@ -203,7 +203,7 @@ pub fn read_slot(s: &[u8], c: Cursor) -> SlotRead
 // The rest of an anchor of a number, by its form byte.
 fn read_hash(s: &[u8], number: u64, known: bool, c: Cursor) -> AnchorRead
     requires { ⌜ c .at ≤ length (now s) ⌝ }
-    ensures { λ r. ⌜ Reading (anchor-answer (now (s .entry)) r) (parse-hash number known (drop (c .at) (now (s .entry)))) (c .at) (anchor-next (length (now (s .entry))) r) (length (now (s .entry))) ⌝ }
+    ensures { λ r. ⌜ Reading (anchor-answer (now (s .entry)) r) (parse-hash number known (drop (c .at) (now (s .entry)))) (c .at) (anchor-next r) (length (now (s .entry))) ⌝ }
 {
     if known {
         match read_u256(s, c) {
@@ -211,7 +211,7 @@ fn read_hash(s: &[u8], number: u64, known: bool, c: Cursor) -> AnchorRead
                 ReadAnchor::identified(number, hash),
                 next,
             ),
-            Word::Fault(n) => AnchorRead::Fault(n),
+            Word::Fault(n, place) => AnchorRead::Fault(n, place),
         }
     } else {
         AnchorRead::Value(ReadAnchor::at(number), c)
@@ -221,27 +221,27 @@ fn read_hash(s: &[u8], number: u64, known: bool, c: Cursor) -> AnchorRead
 // An anchor: number, byte 0, or 1 and hash.
 pub fn read_anchor(s: &[u8], c: Cursor) -> AnchorRead
     requires { ⌜ c .at ≤ length (now s) ⌝ }
-    ensures { λ r. ⌜ Reading (anchor-answer (now (s .entry)) r) (parse-anchor (drop (c .at) (now (s .entry)))) (c .at) (anchor-next (length (now (s .entry))) r) (length (now (s .entry))) ⌝ }
+    ensures { λ r. ⌜ Reading (anchor-answer (now (s .entry)) r) (parse-anchor (drop (c .at) (now (s .entry)))) (c .at) (anchor-next r) (length (now (s .entry))) ⌝ }
 {
     match read_number(s, c) {
         Number::Value(number, form) => match read_form(s, form) {
             Form::Value(known, next) => read_hash(s, number, known, next),
-            Form::Fault(n) => AnchorRead::Fault(n),
+            Form::Fault(n, place) => AnchorRead::Fault(n, place),
         },
-        Number::Fault(n) => AnchorRead::Fault(n),
+        Number::Fault(n, place) => AnchorRead::Fault(n, place),
     }
 }
 
 // Past `count` entries of `width` bytes each.
 fn pass_entries(s: &[u8], width: usize, count: u64, c: Cursor) -> SpanRead
     requires { ⌜ (c .at ≤ length (now s)) × (0 < width) ⌝ }
-    ensures reading { λ r. ⌜ Reading (span-answer (now (s .entry)) r) (fixed-run width count (drop (c .at) (now (s .entry)))) (c .at) (span-next (length (now (s .entry))) r) (length (now (s .entry))) ⌝ }
+    ensures reading { λ r. ⌜ Reading (span-answer (now (s .entry)) r) (fixed-run width count (drop (c .at) (now (s .entry)))) (c .at) (span-next r) (length (now (s .entry))) ⌝ }
     ensures spans { λ r. ⌜ entries-within width (length (now (s .entry))) r ⌝ }
 {
     let start = c.at;
     let count = count as usize;
     if (s.len() - start) / width < count {
-        return SpanRead::Fault(5);
+        return SpanRead::Fault(5, Cursor { at: s.len() });
     }
     SpanRead::Value(
         Span { start, count },
@@ -254,24 +254,24 @@ fn pass_entries(s: &[u8], width: usize, count: u64, c: Cursor) -> SpanRead
 // A count and as many entries of `width` bytes each.
 pub fn read_entries(s: &[u8], width: usize, c: Cursor) -> SpanRead
     requires { ⌜ (c .at ≤ length (now s)) × (0 < width) ⌝ }
-    ensures reading { λ r. ⌜ Reading (span-answer (now (s .entry)) r) (parse-run (fixed-run width) (drop (c .at) (now (s .entry)))) (c .at) (span-next (length (now (s .entry))) r) (length (now (s .entry))) ⌝ }
+    ensures reading { λ r. ⌜ Reading (span-answer (now (s .entry)) r) (parse-run (fixed-run width) (drop (c .at) (now (s .entry)))) (c .at) (span-next r) (length (now (s .entry))) ⌝ }
     ensures spans { λ r. ⌜ entries-within width (length (now (s .entry))) r ⌝ }
 {
     match read_number(s, c) {
         Number::Value(count, next) => pass_entries(s, width, count, next),
-        Number::Fault(n) => SpanRead::Fault(n),
+        Number::Fault(n, place) => SpanRead::Fault(n, place),
     }
 }
 
 // Past a member's value, if its form byte says that there is one.
 fn pass_value(s: &[u8], valued: bool, c: Cursor) -> Passed
     requires { ⌜ c .at ≤ length (now s) ⌝ }
-    ensures { λ r. ⌜ Reading (passed-answer (now (s .entry)) r) (past-value valued (drop (c .at) (now (s .entry)))) (c .at) (passed-next (length (now (s .entry))) r) (length (now (s .entry))) ⌝ }
+    ensures { λ r. ⌜ Reading (passed-answer (now (s .entry)) r) (past-value valued (drop (c .at) (now (s .entry)))) (c .at) (passed-next r) (length (now (s .entry))) ⌝ }
 {
     if valued {
         match read_u256(s, c) {
             Word::Value(_, next) => Passed::Value(next),
-            Word::Fault(n) => Passed::Fault(n),
+            Word::Fault(n, place) => Passed::Fault(n, place),
         }
     } else {
         Passed::Value(c)
@@ -281,21 +281,21 @@ fn pass_value(s: &[u8], valued: bool, c: Cursor) -> Passed
 // Past one member of an answer: a slot, then 1 and its value, or 0.
 pub fn pass_member(s: &[u8], c: Cursor) -> Passed
     requires { ⌜ c .at ≤ length (now s) ⌝ }
-    ensures { λ r. ⌜ Reading (passed-answer (now (s .entry)) r) (past-members 1 (drop (c .at) (now (s .entry)))) (c .at) (passed-next (length (now (s .entry))) r) (length (now (s .entry))) ⌝ }
+    ensures { λ r. ⌜ Reading (passed-answer (now (s .entry)) r) (past-members 1 (drop (c .at) (now (s .entry)))) (c .at) (passed-next r) (length (now (s .entry))) ⌝ }
 {
     match read_slot(s, c) {
         SlotRead::Value(_, form) => match read_form(s, form) {
             Form::Value(valued, value) => pass_value(s, valued, value),
-            Form::Fault(n) => Passed::Fault(n),
+            Form::Fault(n, place) => Passed::Fault(n, place),
         },
-        SlotRead::Fault(n) => Passed::Fault(n),
+        SlotRead::Fault(n, place) => Passed::Fault(n, place),
     }
 }
 
 // Past `count` members.
 fn pass_members(s: &[u8], count: u64, c: Cursor) -> Passed
     requires { ⌜ c .at ≤ length (now s) ⌝ }
-    ensures { λ r. ⌜ Reading (passed-answer (now (s .entry)) r) (past-members count (drop (c .at) (now (s .entry)))) (c .at) (passed-next (length (now (s .entry))) r) (length (now (s .entry))) ⌝ }
+    ensures { λ r. ⌜ Reading (passed-answer (now (s .entry)) r) (past-members count (drop (c .at) (now (s .entry)))) (c .at) (passed-next r) (length (now (s .entry))) ⌝ }
 {
     let mut at = c.at;
     let mut left = count;
@@ -305,7 +305,7 @@ fn pass_members(s: &[u8], count: u64, c: Cursor) -> Passed
                 at = next.at;
                 left -= 1;
             }
-            Passed::Fault(n) => return Passed::Fault(n),
+            Passed::Fault(n, place) => return Passed::Fault(n, place),
         }
     }
     Passed::Value(Cursor { at })
@@ -314,7 +314,7 @@ fn pass_members(s: &[u8], count: u64, c: Cursor) -> Passed
 // A count and as many members.
 pub fn read_members(s: &[u8], c: Cursor) -> SpanRead
     requires { ⌜ c .at ≤ length (now s) ⌝ }
-    ensures reading { λ r. ⌜ Reading (span-answer (now (s .entry)) r) (parse-run member-run (drop (c .at) (now (s .entry)))) (c .at) (span-next (length (now (s .entry))) r) (length (now (s .entry))) ⌝ }
+    ensures reading { λ r. ⌜ Reading (span-answer (now (s .entry)) r) (parse-run member-run (drop (c .at) (now (s .entry)))) (c .at) (span-next r) (length (now (s .entry))) ⌝ }
     ensures spans { λ r. ⌜ members-within (now (s .entry)) r ⌝ }
 {
     match read_number(s, c) {
@@ -326,8 +326,8 @@ pub fn read_members(s: &[u8], c: Cursor) -> SpanRead
                 },
                 next,
             ),
-            Passed::Fault(n) => SpanRead::Fault(n),
+            Passed::Fault(n, place) => SpanRead::Fault(n, place),
         },
-        Number::Fault(n) => SpanRead::Fault(n),
+        Number::Fault(n, place) => SpanRead::Fault(n, place),
     }
 }

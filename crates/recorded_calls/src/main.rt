@@ -95,6 +95,7 @@ fn print_call(call: &[u8], s: &mut [u8]) -> bool {
     ) {
         Ran::No(_) => false,
         Ran::Listed(_, written, _) => print_lines(&out, written),
+        Ran::Broken(_, _, written) => print_lines(&out, written),
     }
 }
 
@@ -192,7 +193,7 @@ fn print_next(list: &[u8], at: usize, s: &mut [u8]) -> usize
             print_detail(list, at, next, call, s);
             next
         }
-        CallRead::Fault(n) => {
+        CallRead::Fault(n, _) => {
             say(b"no");
             field(n);
             say(b"\n");

@@ -5,7 +5,7 @@ use native.Mathlib.Omega.{arith}
 use lib.ListN.{length}
 use denote.Ref.{now}
 use borrow.Author.Needs.{needs}
-use Rattle.call_print.proofs.Parts.{went-on, ends, falls}
+use Rattle.call_print.proofs.Parts.{went-on, broke-off, ends, falls}
 use Rattle.call_print.proofs.print_listing.Statement.{statement}
 use Rattle.call_print.proofs.print_listing.Tie as tie
 use Rattle.call_print.proofs.print_listing.Reads as reads
@@ -99,6 +99,39 @@ loop-less-2 c =
 loop-again-2 : tie.Need-loop-again-2 Inv-loop μ-loop
 loop-again-2 c = search needs
 
+-- src/lib.rt:32:32
+enum-known-written : tie.Need-enum-known-written Inv-loop μ-loop
+enum-known-written c = search needs
+
+-- src/lib.rt:33:35
+sub-write-all-2 : tie.Need-sub-write-all-2 Inv-loop μ-loop
+sub-write-all-2 c = search needs
+
+-- src/lib.rt:33:35
+part-write-all-start-2 : tie.Need-part-write-all-start-2 Inv-loop μ-loop
+part-write-all-start-2 c = search needs
+
+-- src/lib.rt:33:35
+part-write-all-end-2 : tie.Need-part-write-all-end-2 Inv-loop μ-loop
+part-write-all-end-2 c =
+    let ru = c .before .before .before .before .before .before .before .before .before in
+    let w = broke-off (ru .run .result) _ _ _ _ _ _ _ _ _ _ _ _ (c .before .before .written .given .1) (ru .run .ensures) in
+    omega (arith, w .written-within, w .same-length)
+
+-- src/lib.rt:33:17
+write-all-requires-2 : tie.Need-write-all-requires-2 Inv-loop μ-loop
+write-all-requires-2 c κs = search needs
+
+-- src/lib.rt:14:5
+loop-less-3 : tie.Need-loop-less-3 Inv-loop μ-loop
+loop-less-3 c =
+    let l = c .before .before .before .before .before .before .before .before .before .before .before .before .before .before .before .before .before in
+    ends (l .before .loop .ended) (length (now (l .before .before .before .args .list)) - l .before .loop .next) (l .loop-test .taken)
+
+-- src/lib.rt:14:5
+loop-again-3 : tie.Need-loop-again-3 Inv-loop μ-loop
+loop-again-3 c = search needs
+
 -- src/lib.rt:6:1
 returns : tie.Need-returns Inv-loop μ-loop
 returns c = search needs
@@ -126,4 +159,11 @@ print-listing-spec =
     write-all-requires
     loop-less-2
     loop-again-2
+    enum-known-written
+    sub-write-all-2
+    part-write-all-start-2
+    part-write-all-end-2
+    write-all-requires-2
+    loop-less-3
+    loop-again-3
     returns)

@@ -20,7 +20,7 @@ child-read c =
     let s = now (a .s) in
     let g = c .before .child .given .0 in
     let e : c .before .before .before .read-anchor .result ≡ anchor.Value (g .0) (g .1 .0) = search needs in
-    got (anchor-answer s) (anchor-next (length s)) e (c .before .before .before .read-anchor .ensures)
+    got (anchor-answer s) anchor-next e (c .before .before .before .read-anchor .ensures)
 
 hash-read : (c : tie.After-known-told2)
     → let a = c .before .before .before .before .before .before .before .before .before .args in let g = c .before .parent-hash .given .0 in let s = now (a .s) in
@@ -30,7 +30,7 @@ hash-read c =
     let s = now (a .s) in
     let g = c .before .parent-hash .given .0 in
     let e : c .before .before .before .read-u256 .result ≡ word.Value (g .0) (g .1 .0) = search needs in
-    got (word-answer s) (word-next (length s)) e (c .before .before .before .read-u256 .ensures)
+    got (word-answer s) word-next e (c .before .before .before .read-u256 .ensures)
 
 skip-read : (c : tie.After-known-told3)
     → let a = c .before .before .before .before .before .before .before .before .before .before .before .before .before .args in let g = c .before .skip .given .0 in let s = now (a .s) in
@@ -40,31 +40,31 @@ skip-read c =
     let s = now (a .s) in
     let g = c .before .skip .given .0 in
     let e : c .before .before .before .read-number .result ≡ number.Value (g .0) (g .1 .0) = search needs in
-    got (number-answer s) (number-next (length s)) e (c .before .before .before .read-number .ensures)
+    got (number-answer s) number-next e (c .before .before .before .read-number .ensures)
 
 skip-fault : (c : tie.After-known-told4)
     → let a = c .before .before .before .before .before .before .before .before .before .before .before .before .before .args in let s = now (a .s) in
-    Reading (fault (c .before .n .given .0 .0)) (parse-number (drop (c .before .before .before .before .before .parent-hash .given .0 .1 .0 .at) s)) (c .before .before .before .before .before .parent-hash .given .0 .1 .0 .at) (length s) (length s)
+    Reading (fault (c .before .n .given .0 .0) (drop (c .before .n .given .0 .1 .0 .at) s)) (parse-number (drop (c .before .before .before .before .before .parent-hash .given .0 .1 .0 .at) s)) (c .before .before .before .before .before .parent-hash .given .0 .1 .0 .at) (c .before .n .given .0 .1 .0 .at) (length s)
 skip-fault c =
     let s = now (c .before .before .before .before .before .before .before .before .before .before .before .before .before .args .s) in
-    let e : c .before .before .before .read-number .result ≡ number.Fault (c .before .n .given .0 .0) = search needs in
-    got (number-answer s) (number-next (length s)) e (c .before .before .before .read-number .ensures)
+    let e : c .before .before .before .read-number .result ≡ number.Fault (c .before .n .given .0 .0) (c .before .n .given .0 .1 .0) = search needs in
+    got (number-answer s) number-next e (c .before .before .before .read-number .ensures)
 
 hash-fault : (c : tie.After-known-told5)
     → let a = c .before .before .before .before .before .before .before .before .before .args in let s = now (a .s) in
-    Reading (fault (c .before .n2 .given .0 .0)) (parse-u256 (drop (c .before .before .before .before .before .child .given .0 .1 .0 .at) s)) (c .before .before .before .before .before .child .given .0 .1 .0 .at) (length s) (length s)
+    Reading (fault (c .before .n2 .given .0 .0) (drop (c .before .n2 .given .0 .1 .0 .at) s)) (parse-u256 (drop (c .before .before .before .before .before .child .given .0 .1 .0 .at) s)) (c .before .before .before .before .before .child .given .0 .1 .0 .at) (c .before .n2 .given .0 .1 .0 .at) (length s)
 hash-fault c =
     let s = now (c .before .before .before .before .before .before .before .before .before .args .s) in
-    let e : c .before .before .before .read-u256 .result ≡ word.Fault (c .before .n2 .given .0 .0) = search needs in
-    got (word-answer s) (word-next (length s)) e (c .before .before .before .read-u256 .ensures)
+    let e : c .before .before .before .read-u256 .result ≡ word.Fault (c .before .n2 .given .0 .0) (c .before .n2 .given .0 .1 .0) = search needs in
+    got (word-answer s) word-next e (c .before .before .before .read-u256 .ensures)
 
 child-fault : (c : tie.After-known-told6)
     → let a = c .before .before .before .before .before .args in let s = now (a .s) in
-    Reading (fault (c .before .n3 .given .0 .0)) (parse-anchor (drop (a .c .at) s)) (a .c .at) (length s) (length s)
+    Reading (fault (c .before .n3 .given .0 .0) (drop (c .before .n3 .given .0 .1 .0 .at) s)) (parse-anchor (drop (a .c .at) s)) (a .c .at) (c .before .n3 .given .0 .1 .0 .at) (length s)
 child-fault c =
     let s = now (c .before .before .before .before .before .args .s) in
-    let e : c .before .before .before .read-anchor .result ≡ anchor.Fault (c .before .n3 .given .0 .0) = search needs in
-    got (anchor-answer s) (anchor-next (length s)) e (c .before .before .before .read-anchor .ensures)
+    let e : c .before .before .before .read-anchor .result ≡ anchor.Fault (c .before .n3 .given .0 .0) (c .before .n3 .given .0 .1 .0) = search needs in
+    got (anchor-answer s) anchor-next e (c .before .before .before .read-anchor .ensures)
 
 read-anchor-requires : tie.Need-read-anchor-requires
 read-anchor-requires c κs = search needs

@@ -18,15 +18,15 @@ form-read c =
     let s = now (a .s) in
     let g = c .before .failed .given .0 in
     let e : c .before .before .before .read-form .result ≡ form.Value (g .0) (g .1 .0) = search needs in
-    got (form-answer s) (form-next (length s)) e (c .before .before .before .read-form .ensures)
+    got (form-answer s) form-next e (c .before .before .before .read-form .ensures)
 
 form-fault : (c : tie.After-known-told2)
     → let a = c .before .before .before .before .before .args in let s = now (a .s) in
-    Reading (fault (c .before .n .given .0 .0)) (parse-form (drop (a .c .at) s)) (a .c .at) (length s) (length s)
+    Reading (fault (c .before .n .given .0 .0) (drop (c .before .n .given .0 .1 .0 .at) s)) (parse-form (drop (a .c .at) s)) (a .c .at) (c .before .n .given .0 .1 .0 .at) (length s)
 form-fault c =
     let s = now (c .before .before .before .before .before .args .s) in
-    let e : c .before .before .before .read-form .result ≡ form.Fault (c .before .n .given .0 .0) = search needs in
-    got (form-answer s) (form-next (length s)) e (c .before .before .before .read-form .ensures)
+    let e : c .before .before .before .read-form .result ≡ form.Fault (c .before .n .given .0 .0) (c .before .n .given .0 .1 .0) = search needs in
+    got (form-answer s) form-next e (c .before .before .before .read-form .ensures)
 
 read-form-requires : tie.Need-read-form-requires
 read-form-requires c κs = search needs

@@ -6,7 +6,7 @@ use native.Mathlib.Omega.{arith}
 use lib.ListN.{getD}
 use denote.Ref.{now}
 use Rattle.reader.proofs.Chain.{reading-as, reading-later}
-use Rattle.call_reader.proofs.Codes.{call-ends, call-open, call-install, call-advance, call-anchored, call-unknown}
+use Rattle.call_reader.proofs.Codes.{call-ends, call-forth, call-open, call-install, call-advance, call-anchored, call-unknown}
 use Rattle.call_reader.proofs.read_call.Statement.{statement}
 use Rattle.call_reader.proofs.read_call.Tie as tie
 
@@ -14,7 +14,7 @@ returns : tie.Need-returns
 returns c =
     let a = c .before .before .args in
     let s = now (a .s) in
-    (record { means = call-ends (a .c .at) s (omega arith); forward = omega arith; within = omega arith }, ((λ h. h), tt))
+    (record { means = call-ends (a .c .at) s (omega arith); forward = omega arith; within = omega arith }, (tt, tt))
 
 shared-slice-read-code : tie.Need-shared-slice-read-code
 shared-slice-read-code c = search needs
@@ -40,7 +40,7 @@ returns-2 c =
     let s = now (a .s) in
     let e : getD s (a .c .at) 0 ≡ 1 = search needs in
     let w = c .read-open .ensures .0 in
-    (reading-later (omega arith) (reading-as (call-open (a .c .at) s (omega arith) e) w), ((λ h. omega (arith, w .forward)), c .read-open .ensures .1))
+    (reading-later (omega arith) (reading-as (call-open (a .c .at) s (omega arith) e) w), (call-forth (a .c .at) (c .read-open .result) (omega (arith, w .forward)), c .read-open .ensures .1))
 
 returns-3 : tie.Need-returns-3
 returns-3 c =
@@ -48,7 +48,7 @@ returns-3 c =
     let s = now (a .s) in
     let e : getD s (a .c .at) 0 ≡ 2 = search needs in
     let w = c .read-install .ensures .0 in
-    (reading-later (omega arith) (reading-as (call-install (a .c .at) s (omega arith) e) w), ((λ h. omega (arith, w .forward)), c .read-install .ensures .1))
+    (reading-later (omega arith) (reading-as (call-install (a .c .at) s (omega arith) e) w), (call-forth (a .c .at) (c .read-install .result) (omega (arith, w .forward)), c .read-install .ensures .1))
 
 returns-4 : tie.Need-returns-4
 returns-4 c =
@@ -56,14 +56,14 @@ returns-4 c =
     let s = now (a .s) in
     let e : getD s (a .c .at) 0 ≡ 3 = search needs in
     let w = c .read-advance .ensures .0 in
-    (reading-later (omega arith) (reading-as (call-advance (a .c .at) s (omega arith) e) w), ((λ h. omega (arith, w .forward)), c .read-advance .ensures .1))
+    (reading-later (omega arith) (reading-as (call-advance (a .c .at) s (omega arith) e) w), (call-forth (a .c .at) (c .read-advance .result) (omega (arith, w .forward)), c .read-advance .ensures .1))
 
 returns-5 : tie.Need-returns-5
 returns-5 c =
     let a = c .before .before .before .before .before .before .before .args in
     let s = now (a .s) in
     let w = c .read-anchored .ensures .0 in
-    (reading-later (omega arith) (reading-as (call-anchored (a .c .at) s (omega arith) (omega arith) (omega arith)) w), ((λ h. omega (arith, w .forward)), c .read-anchored .ensures .1))
+    (reading-later (omega arith) (reading-as (call-anchored (a .c .at) s (omega arith) (omega arith) (omega arith)) w), (call-forth (a .c .at) (c .read-anchored .result) (omega (arith, w .forward)), c .read-anchored .ensures .1))
 
 returns-6 : tie.Need-returns-6
 returns-6 c =
@@ -75,13 +75,13 @@ returns-6 c =
     let two : n ≡ 2 → ⊥ = λ e. r .0 .1 (search needs) in
     let three : n ≡ 3 → ⊥ = λ e. r .1 (search needs) in
     let k : 1 ≤ n → n ≤ 9 → ⊥ = λ p q. omega (arith, one, two, three) in
-    (record { means = call-unknown (a .c .at) s (omega arith) k; forward = omega arith; within = omega arith }, ((λ h. h), tt))
+    (record { means = call-unknown (a .c .at) s (omega arith) k; forward = omega arith; within = omega arith }, (tt, tt))
 
 returns-7 : tie.Need-returns-7
 returns-7 c =
     let a = c .before .before .before .before .before .before .args in
     let s = now (a .s) in
-    (record { means = call-unknown (a .c .at) s (omega arith) (λ p q. omega arith); forward = omega arith; within = omega arith }, ((λ h. h), tt))
+    (record { means = call-unknown (a .c .at) s (omega arith) (λ p q. omega arith); forward = omega arith; within = omega arith }, (tt, tt))
 
 pub read-call-spec : {M : Type 1} → statement M
 read-call-spec =

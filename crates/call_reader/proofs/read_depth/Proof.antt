@@ -21,7 +21,7 @@ depth-read c =
     let s = now (a .s) in
     let g = c .before .depth .given .0 in
     let e : c .before .before .before .read-number .result ≡ number.Value (g .0) (g .1 .0) = search needs in
-    got (number-answer s) (number-next (length s)) e (c .before .before .before .read-number .ensures)
+    got (number-answer s) number-next e (c .before .before .before .read-number .ensures)
 
 form-read : (c : tie.After-known-told2)
     → let a = c .before .before .before .before .before .before .before .before .before .args in let g = c .before .idle .given .0 in let s = now (a .s) in
@@ -31,7 +31,7 @@ form-read c =
     let s = now (a .s) in
     let g = c .before .idle .given .0 in
     let e : c .before .before .before .read-form .result ≡ form.Value (g .0) (g .1 .0) = search needs in
-    got (form-answer s) (form-next (length s)) e (c .before .before .before .read-form .ensures)
+    got (form-answer s) form-next e (c .before .before .before .read-form .ensures)
 
 retention-read : (c : tie.After-known-told3)
     → let a = c .before .before .before .before .before .before .before .before .before .before .before .before .before .args in let g = c .before .retention .given .0 in let s = now (a .s) in
@@ -41,31 +41,31 @@ retention-read c =
     let s = now (a .s) in
     let g = c .before .retention .given .0 in
     let e : c .before .before .before .read-retention .result ≡ retention.Value (g .0) (g .1 .0) = search needs in
-    got (retention-answer s) (retention-next (length s)) e (c .before .before .before .read-retention .ensures)
+    got (retention-answer s) retention-next e (c .before .before .before .read-retention .ensures)
 
 retention-fault : (c : tie.After-known-told4)
     → let a = c .before .before .before .before .before .before .before .before .before .before .before .before .before .args in let s = now (a .s) in
-    Reading (fault (c .before .n .given .0 .0)) (parse-retention (c .before .before .before .before .before .idle .given .0 .0) (drop (c .before .before .before .before .before .idle .given .0 .1 .0 .at) s)) (c .before .before .before .before .before .idle .given .0 .1 .0 .at) (length s) (length s)
+    Reading (fault (c .before .n .given .0 .0) (drop (c .before .n .given .0 .1 .0 .at) s)) (parse-retention (c .before .before .before .before .before .idle .given .0 .0) (drop (c .before .before .before .before .before .idle .given .0 .1 .0 .at) s)) (c .before .before .before .before .before .idle .given .0 .1 .0 .at) (c .before .n .given .0 .1 .0 .at) (length s)
 retention-fault c =
     let s = now (c .before .before .before .before .before .before .before .before .before .before .before .before .before .args .s) in
-    let e : c .before .before .before .read-retention .result ≡ retention.Fault (c .before .n .given .0 .0) = search needs in
-    got (retention-answer s) (retention-next (length s)) e (c .before .before .before .read-retention .ensures)
+    let e : c .before .before .before .read-retention .result ≡ retention.Fault (c .before .n .given .0 .0) (c .before .n .given .0 .1 .0) = search needs in
+    got (retention-answer s) retention-next e (c .before .before .before .read-retention .ensures)
 
 form-fault : (c : tie.After-known-told5)
     → let a = c .before .before .before .before .before .before .before .before .before .args in let s = now (a .s) in
-    Reading (fault (c .before .n2 .given .0 .0)) (parse-form (drop (c .before .before .before .before .before .depth .given .0 .1 .0 .at) s)) (c .before .before .before .before .before .depth .given .0 .1 .0 .at) (length s) (length s)
+    Reading (fault (c .before .n2 .given .0 .0) (drop (c .before .n2 .given .0 .1 .0 .at) s)) (parse-form (drop (c .before .before .before .before .before .depth .given .0 .1 .0 .at) s)) (c .before .before .before .before .before .depth .given .0 .1 .0 .at) (c .before .n2 .given .0 .1 .0 .at) (length s)
 form-fault c =
     let s = now (c .before .before .before .before .before .before .before .before .before .args .s) in
-    let e : c .before .before .before .read-form .result ≡ form.Fault (c .before .n2 .given .0 .0) = search needs in
-    got (form-answer s) (form-next (length s)) e (c .before .before .before .read-form .ensures)
+    let e : c .before .before .before .read-form .result ≡ form.Fault (c .before .n2 .given .0 .0) (c .before .n2 .given .0 .1 .0) = search needs in
+    got (form-answer s) form-next e (c .before .before .before .read-form .ensures)
 
 depth-fault : (c : tie.After-known-told6)
     → let a = c .before .before .before .before .before .args in let s = now (a .s) in
-    Reading (fault (c .before .n3 .given .0 .0)) (parse-number (drop (a .c .at) s)) (a .c .at) (length s) (length s)
+    Reading (fault (c .before .n3 .given .0 .0) (drop (c .before .n3 .given .0 .1 .0 .at) s)) (parse-number (drop (a .c .at) s)) (a .c .at) (c .before .n3 .given .0 .1 .0 .at) (length s)
 depth-fault c =
     let s = now (c .before .before .before .before .before .args .s) in
-    let e : c .before .before .before .read-number .result ≡ number.Fault (c .before .n3 .given .0 .0) = search needs in
-    got (number-answer s) (number-next (length s)) e (c .before .before .before .read-number .ensures)
+    let e : c .before .before .before .read-number .result ≡ number.Fault (c .before .n3 .given .0 .0) (c .before .n3 .given .0 .1 .0) = search needs in
+    got (number-answer s) number-next e (c .before .before .before .read-number .ensures)
 
 read-number-requires : tie.Need-read-number-requires
 read-number-requires c κs = search needs

@@ -18,15 +18,15 @@ anchor-read c =
     let s = now (a .s) in
     let g = c .before .anchor .given .0 in
     let e : c .before .before .before .read-anchor .result ≡ anchor.Value (g .0) (g .1 .0) = search needs in
-    got (anchor-answer s) (anchor-next (length s)) e (c .before .before .before .read-anchor .ensures)
+    got (anchor-answer s) anchor-next e (c .before .before .before .read-anchor .ensures)
 
 anchor-fault : (c : tie.After-known-told2)
     → let a = c .before .before .before .before .before .args in let s = now (a .s) in
-    Reading (fault (c .before .n .given .0 .0)) (parse-anchor (drop (a .c .at) s)) (a .c .at) (length s) (length s)
+    Reading (fault (c .before .n .given .0 .0) (drop (c .before .n .given .0 .1 .0 .at) s)) (parse-anchor (drop (a .c .at) s)) (a .c .at) (c .before .n .given .0 .1 .0 .at) (length s)
 anchor-fault c =
     let s = now (c .before .before .before .before .before .args .s) in
-    let e : c .before .before .before .read-anchor .result ≡ anchor.Fault (c .before .n .given .0 .0) = search needs in
-    got (anchor-answer s) (anchor-next (length s)) e (c .before .before .before .read-anchor .ensures)
+    let e : c .before .before .before .read-anchor .result ≡ anchor.Fault (c .before .n .given .0 .0) (c .before .n .given .0 .1 .0) = search needs in
+    got (anchor-answer s) anchor-next e (c .before .before .before .read-anchor .ensures)
 
 read-anchor-requires : tie.Need-read-anchor-requires
 read-anchor-requires c κs = search needs

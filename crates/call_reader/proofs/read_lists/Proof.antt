@@ -24,7 +24,7 @@ addresses-read c =
     let s = now (a .s) in
     let g = c .before .addresses .given .0 in
     let e : c .before .before .before .read-entries .result ≡ span.Value (g .0) (g .1 .0) = search needs in
-    got (span-answer s) (span-next (length s)) e (c .before .before .before .read-entries .ensures .0)
+    got (span-answer s) span-next e (c .before .before .before .read-entries .ensures .0)
 
 writes-read : (c : tie.After-known-told2)
     → let a = c .before .before .before .before .before .before .before .before .before .args in let g = c .before .writes .given .0 in let s = now (a .s) in
@@ -34,15 +34,15 @@ writes-read c =
     let s = now (a .s) in
     let g = c .before .writes .given .0 in
     let e : c .before .before .before .read-entries2 .result ≡ span.Value (g .0) (g .1 .0) = search needs in
-    got (span-answer s) (span-next (length s)) e (c .before .before .before .read-entries2 .ensures .0)
+    got (span-answer s) span-next e (c .before .before .before .read-entries2 .ensures .0)
 
 writes-fault : (c : tie.After-known-told3)
     → let a = c .before .before .before .before .before .before .before .before .before .args in let s = now (a .s) in
-    Reading (fault (c .before .n .given .0 .0)) (parse-run (fixed-run 84) (drop (c .before .before .before .before .before .addresses .given .0 .1 .0 .at) s)) (c .before .before .before .before .before .addresses .given .0 .1 .0 .at) (length s) (length s)
+    Reading (fault (c .before .n .given .0 .0) (drop (c .before .n .given .0 .1 .0 .at) s)) (parse-run (fixed-run 84) (drop (c .before .before .before .before .before .addresses .given .0 .1 .0 .at) s)) (c .before .before .before .before .before .addresses .given .0 .1 .0 .at) (c .before .n .given .0 .1 .0 .at) (length s)
 writes-fault c =
     let s = now (c .before .before .before .before .before .before .before .before .before .args .s) in
-    let e : c .before .before .before .read-entries2 .result ≡ span.Fault (c .before .n .given .0 .0) = search needs in
-    got (span-answer s) (span-next (length s)) e (c .before .before .before .read-entries2 .ensures .0)
+    let e : c .before .before .before .read-entries2 .result ≡ span.Fault (c .before .n .given .0 .0) (c .before .n .given .0 .1 .0) = search needs in
+    got (span-answer s) span-next e (c .before .before .before .read-entries2 .ensures .0)
 
 addresses-within : (c : tie.After-known-told) → let s = now (c .before .before .before .before .before .args .s) in let p = c .before .addresses .given .0 .0 in p .start + p .count * 20 ≤ length s
 addresses-within c =
@@ -60,11 +60,11 @@ writes-within c =
 
 addresses-fault : (c : tie.After-known-told4)
     → let a = c .before .before .before .before .before .args in let s = now (a .s) in
-    Reading (fault (c .before .n2 .given .0 .0)) (parse-run (fixed-run 20) (drop (a .c .at) s)) (a .c .at) (length s) (length s)
+    Reading (fault (c .before .n2 .given .0 .0) (drop (c .before .n2 .given .0 .1 .0 .at) s)) (parse-run (fixed-run 20) (drop (a .c .at) s)) (a .c .at) (c .before .n2 .given .0 .1 .0 .at) (length s)
 addresses-fault c =
     let s = now (c .before .before .before .before .before .args .s) in
-    let e : c .before .before .before .read-entries .result ≡ span.Fault (c .before .n2 .given .0 .0) = search needs in
-    got (span-answer s) (span-next (length s)) e (c .before .before .before .read-entries .ensures .0)
+    let e : c .before .before .before .read-entries .result ≡ span.Fault (c .before .n2 .given .0 .0) (c .before .n2 .given .0 .1 .0) = search needs in
+    got (span-answer s) span-next e (c .before .before .before .read-entries .ensures .0)
 
 read-entries-requires : tie.Need-read-entries-requires
 read-entries-requires c κs = search needs

@@ -19,7 +19,7 @@ slot-read c =
     let s = now (a .s) in
     let g = c .before .slot .given .0 in
     let e : c .before .before .before .read-slot .result ≡ slot.Value (g .0) (g .1 .0) = search needs in
-    got (slot-answer s) (slot-next (length s)) e (c .before .before .before .read-slot .ensures)
+    got (slot-answer s) slot-next e (c .before .before .before .read-slot .ensures)
 
 value-read : (c : tie.After-known-told2)
     → let a = c .before .before .before .before .before .before .before .before .before .args in let g = c .before .value .given .0 in let s = now (a .s) in
@@ -29,23 +29,23 @@ value-read c =
     let s = now (a .s) in
     let g = c .before .value .given .0 in
     let e : c .before .before .before .read-u256 .result ≡ word.Value (g .0) (g .1 .0) = search needs in
-    got (word-answer s) (word-next (length s)) e (c .before .before .before .read-u256 .ensures)
+    got (word-answer s) word-next e (c .before .before .before .read-u256 .ensures)
 
 value-fault : (c : tie.After-known-told3)
     → let a = c .before .before .before .before .before .before .before .before .before .args in let s = now (a .s) in
-    Reading (fault (c .before .n .given .0 .0)) (parse-u256 (drop (c .before .before .before .before .before .slot .given .0 .1 .0 .at) s)) (c .before .before .before .before .before .slot .given .0 .1 .0 .at) (length s) (length s)
+    Reading (fault (c .before .n .given .0 .0) (drop (c .before .n .given .0 .1 .0 .at) s)) (parse-u256 (drop (c .before .before .before .before .before .slot .given .0 .1 .0 .at) s)) (c .before .before .before .before .before .slot .given .0 .1 .0 .at) (c .before .n .given .0 .1 .0 .at) (length s)
 value-fault c =
     let s = now (c .before .before .before .before .before .before .before .before .before .args .s) in
-    let e : c .before .before .before .read-u256 .result ≡ word.Fault (c .before .n .given .0 .0) = search needs in
-    got (word-answer s) (word-next (length s)) e (c .before .before .before .read-u256 .ensures)
+    let e : c .before .before .before .read-u256 .result ≡ word.Fault (c .before .n .given .0 .0) (c .before .n .given .0 .1 .0) = search needs in
+    got (word-answer s) word-next e (c .before .before .before .read-u256 .ensures)
 
 slot-fault : (c : tie.After-known-told4)
     → let a = c .before .before .before .before .before .args in let s = now (a .s) in
-    Reading (fault (c .before .n2 .given .0 .0)) (parse-slot (drop (a .c .at) s)) (a .c .at) (length s) (length s)
+    Reading (fault (c .before .n2 .given .0 .0) (drop (c .before .n2 .given .0 .1 .0 .at) s)) (parse-slot (drop (a .c .at) s)) (a .c .at) (c .before .n2 .given .0 .1 .0 .at) (length s)
 slot-fault c =
     let s = now (c .before .before .before .before .before .args .s) in
-    let e : c .before .before .before .read-slot .result ≡ slot.Fault (c .before .n2 .given .0 .0) = search needs in
-    got (slot-answer s) (slot-next (length s)) e (c .before .before .before .read-slot .ensures)
+    let e : c .before .before .before .read-slot .result ≡ slot.Fault (c .before .n2 .given .0 .0) (c .before .n2 .given .0 .1 .0) = search needs in
+    got (slot-answer s) slot-next e (c .before .before .before .read-slot .ensures)
 
 read-slot-requires : tie.Need-read-slot-requires
 read-slot-requires c κs = search needs

@@ -20,15 +20,15 @@ blocks-read c =
     let s = now (a .s) in
     let g = c .before .blocks2 .given .0 in
     let e : c .before .before .before .read-number .result ≡ number.Value (g .0) (g .1 .0) = search needs in
-    got (number-answer s) (number-next (length s)) e (c .before .before .before .read-number .ensures)
+    got (number-answer s) number-next e (c .before .before .before .read-number .ensures)
 
 blocks-fault : (c : tie.After-known-told2)
     → let a = c .before .before .before .before .before .before .args in let s = now (a .s) in
-    Reading (fault (c .before .n .given .0 .0)) (parse-number (drop (a .c .at) s)) (a .c .at) (length s) (length s)
+    Reading (fault (c .before .n .given .0 .0) (drop (c .before .n .given .0 .1 .0 .at) s)) (parse-number (drop (a .c .at) s)) (a .c .at) (c .before .n .given .0 .1 .0 .at) (length s)
 blocks-fault c =
     let s = now (c .before .before .before .before .before .before .args .s) in
-    let e : c .before .before .before .read-number .result ≡ number.Fault (c .before .n .given .0 .0) = search needs in
-    got (number-answer s) (number-next (length s)) e (c .before .before .before .read-number .ensures)
+    let e : c .before .before .before .read-number .result ≡ number.Fault (c .before .n .given .0 .0) (c .before .n .given .0 .1 .0) = search needs in
+    got (number-answer s) number-next e (c .before .before .before .read-number .ensures)
 
 read-number-requires : tie.Need-read-number-requires
 read-number-requires c κs = search needs

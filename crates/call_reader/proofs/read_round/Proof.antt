@@ -24,15 +24,15 @@ slots-read c =
     let s = now (a .s) in
     let g = c .before .slots .given .0 in
     let e : c .before .before .before .read-entries .result ≡ span.Value (g .0) (g .1 .0) = search needs in
-    got (span-answer s) (span-next (length s)) e (c .before .before .before .read-entries .ensures .0)
+    got (span-answer s) span-next e (c .before .before .before .read-entries .ensures .0)
 
 slots-fault : (c : tie.After-known-told2)
     → let a = c .before .before .before .before .before .before .args in let s = now (a .s) in
-    Reading (fault (c .before .n .given .0 .0)) (parse-run (fixed-run 52) (drop (a .c .at) s)) (a .c .at) (length s) (length s)
+    Reading (fault (c .before .n .given .0 .0) (drop (c .before .n .given .0 .1 .0 .at) s)) (parse-run (fixed-run 52) (drop (a .c .at) s)) (a .c .at) (c .before .n .given .0 .1 .0 .at) (length s)
 slots-fault c =
     let s = now (c .before .before .before .before .before .before .args .s) in
-    let e : c .before .before .before .read-entries .result ≡ span.Fault (c .before .n .given .0 .0) = search needs in
-    got (span-answer s) (span-next (length s)) e (c .before .before .before .read-entries .ensures .0)
+    let e : c .before .before .before .read-entries .result ≡ span.Fault (c .before .n .given .0 .0) (c .before .n .given .0 .1 .0) = search needs in
+    got (span-answer s) span-next e (c .before .before .before .read-entries .ensures .0)
 
 members-read : (c : tie.After-known-told3)
     → let a = c .before .before .before .before .before .before .args in let g = c .before .members .given .0 in let s = now (a .s) in
@@ -42,7 +42,7 @@ members-read c =
     let s = now (a .s) in
     let g = c .before .members .given .0 in
     let e : c .before .before .before .read-members .result ≡ span.Value (g .0) (g .1 .0) = search needs in
-    got (span-answer s) (span-next (length s)) e (c .before .before .before .read-members .ensures .0)
+    got (span-answer s) span-next e (c .before .before .before .read-members .ensures .0)
 
 slots-within : (c : tie.After-known-told) → let s = now (c .before .before .before .before .before .before .args .s) in let p = c .before .slots .given .0 .0 in p .start + p .count * 52 ≤ length s
 slots-within c =
@@ -60,11 +60,11 @@ members-here c =
 
 members-fault : (c : tie.After-known-told4)
     → let a = c .before .before .before .before .before .before .args in let s = now (a .s) in
-    Reading (fault (c .before .n2 .given .0 .0)) (parse-run member-run (drop (a .c .at) s)) (a .c .at) (length s) (length s)
+    Reading (fault (c .before .n2 .given .0 .0) (drop (c .before .n2 .given .0 .1 .0 .at) s)) (parse-run member-run (drop (a .c .at) s)) (a .c .at) (c .before .n2 .given .0 .1 .0 .at) (length s)
 members-fault c =
     let s = now (c .before .before .before .before .before .before .args .s) in
-    let e : c .before .before .before .read-members .result ≡ span.Fault (c .before .n2 .given .0 .0) = search needs in
-    got (span-answer s) (span-next (length s)) e (c .before .before .before .read-members .ensures .0)
+    let e : c .before .before .before .read-members .result ≡ span.Fault (c .before .n2 .given .0 .0) (c .before .n2 .given .0 .1 .0) = search needs in
+    got (span-answer s) span-next e (c .before .before .before .read-members .ensures .0)
 
 read-entries-requires : tie.Need-read-entries-requires
 read-entries-requires c κs = search needs

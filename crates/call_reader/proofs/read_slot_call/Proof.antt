@@ -19,15 +19,15 @@ slot-read c =
     let s = now (a .s) in
     let g = c .before .slot .given .0 in
     let e : c .before .before .before .read-slot .result ≡ slot.Value (g .0) (g .1 .0) = search needs in
-    got (slot-answer s) (slot-next (length s)) e (c .before .before .before .read-slot .ensures)
+    got (slot-answer s) slot-next e (c .before .before .before .read-slot .ensures)
 
 slot-fault : (c : tie.After-known-told2)
     → let a = c .before .before .before .before .before .args in let s = now (a .s) in
-    Reading (fault (c .before .n .given .0 .0)) (parse-slot (drop (a .c .at) s)) (a .c .at) (length s) (length s)
+    Reading (fault (c .before .n .given .0 .0) (drop (c .before .n .given .0 .1 .0 .at) s)) (parse-slot (drop (a .c .at) s)) (a .c .at) (c .before .n .given .0 .1 .0 .at) (length s)
 slot-fault c =
     let s = now (c .before .before .before .before .before .args .s) in
-    let e : c .before .before .before .read-slot .result ≡ slot.Fault (c .before .n .given .0 .0) = search needs in
-    got (slot-answer s) (slot-next (length s)) e (c .before .before .before .read-slot .ensures)
+    let e : c .before .before .before .read-slot .result ≡ slot.Fault (c .before .n .given .0 .0) (c .before .n .given .0 .1 .0) = search needs in
+    got (slot-answer s) slot-next e (c .before .before .before .read-slot .ensures)
 
 read-slot-requires : tie.Need-read-slot-requires
 read-slot-requires c κs = search needs

@@ -7,6 +7,7 @@ use lib.ListN.{length}
 use denote.Ref.{now}
 use Rattle.call_run.specs.Run.{too-short}
 use Rattle.call_run.proofs.Going.{long-enough, ran-to}
+use Rattle.call_run.proofs.Went.{ended-run}
 use borrow.Author.Needs.{needs}
 use Rattle.call_run.proofs.run.Statement.{statement}
 use Rattle.call_run.proofs.run.Tie as tie
@@ -37,7 +38,7 @@ run-calls-requires c κs =
     let i = c .before .before .before .before .before .before in
     let n = i .before .before in
     let a = n .before .before .before .before .before .before .before .before .before .before .args in
-    (record { known-is = i .is-store .ensures; ended-is = refl; room = omega arith }, long-enough (now (a .list)) (now (a .members)) (now (a .out)) (long n) .1)
+    (record { known-is = i .is-store .ensures; ended-is = refl; room = omega arith }, refl, long-enough (now (a .list)) (now (a .members)) (now (a .out)) (long n) .1)
 
 same-length-3 : tie.Need-same-length-3
 same-length-3 c = search needs
@@ -56,13 +57,44 @@ same-length-7 c = search needs
 
 returns-2 : tie.Need-returns-2
 returns-2 c =
-    let p = c .before .before .before .before .before .before .before .before .before .before in
+    let p = c .before .before .before .before .before .before .before .before .before .before .before in
+    let i = p .before .before .before .before .before .before .before in
+    let n = i .before .before in
+    let a = n .before .before .before .before .before .before .before .before .before .before .args in
+    let b = p .run-calls .ensures .1 .1 .stopped (c .if2 .taken) in (
+      long n,
+      ended-run (length (now (a .work))) (length (now (a .entries)) / 52) (now (a .list)) (a .from .at) (now (a .s)) (now (a .out)) _ (length (now (a .list))) _ _ _ _ (b .0)
+          (ran-to (length (now (a .work))) (length (now (a .entries)) / 52) (now (a .list)) (now (a .s)) (now (a .out)) (a .from .at) (i .is-store .result) _ _ (p .run-calls .result)
+          (long-enough (now (a .list)) (now (a .members)) (now (a .out)) (long n) .0) (p .run-calls .ensures .0) (p .run-calls .ensures .1 .0)),
+      b .1,
+    )
+
+same-length-8 : tie.Need-same-length-8
+same-length-8 c = search needs
+
+same-length-9 : tie.Need-same-length-9
+same-length-9 c = search needs
+
+same-length-10 : tie.Need-same-length-10
+same-length-10 c = search needs
+
+same-length-11 : tie.Need-same-length-11
+same-length-11 c = search needs
+
+same-length-12 : tie.Need-same-length-12
+same-length-12 c = search needs
+
+returns-3 : tie.Need-returns-3
+returns-3 c =
+    let p = c .before .before .before .before .before .before .before .before .before .before .before in
     let i = p .before .before .before .before .before .before .before in
     let n = i .before .before in
     let a = n .before .before .before .before .before .before .before .before .before .before .args in (
       long n,
       ran-to (length (now (a .work))) (length (now (a .entries)) / 52) (now (a .list)) (now (a .s)) (now (a .out)) (a .from .at) (i .is-store .result) _ _ (p .run-calls .result)
-          (long-enough (now (a .list)) (now (a .members)) (now (a .out)) (long n) .0) (p .run-calls .ensures .0) (p .run-calls .ensures .1),
+          (long-enough (now (a .list)) (now (a .members)) (now (a .out)) (long n) .0) (p .run-calls .ensures .0) (p .run-calls .ensures .1 .0),
+      p .run-calls .ensures .1 .1 .whole (c .if2 .left),
+      p .run-calls .ensures .0 .now-at .ended-is,
     )
 
 pub run-spec : {M : Type 1} → statement M
@@ -80,4 +112,10 @@ run-spec =
     same-length-5
     same-length-6
     same-length-7
-    returns-2)
+    returns-2
+    same-length-8
+    same-length-9
+    same-length-10
+    same-length-11
+    same-length-12
+    returns-3)

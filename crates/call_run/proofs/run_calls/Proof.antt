@@ -22,7 +22,7 @@ loop-holds : tie.Need-loop-holds Inv-loop μ-loop
 loop-holds c =
     let st = c .before .before .before .before .before .before in
     let a = st .args in
-    (going-first (length (now (a .work))) (length (now (a .entries)) / 52) (now (a .list)) (now (a .s)) (now (a .out)) (a .first) (st .pre .0), refl, refl, refl, refl)
+    (going-first (length (now (a .work))) (length (now (a .entries)) / 52) (now (a .list)) (now (a .s)) (now (a .out)) (a .first) (st .pre .0) (st .pre .1), refl, refl, refl, refl)
 
 goes-on-requires : tie.Need-goes-on-requires Inv-loop μ-loop
 goes-on-requires c κs = c .before .loop .inv .0 .ran .now-at .room
@@ -38,12 +38,12 @@ run-call-requires c κs =
     let n = c .before .before .before .before .before in
     let l = n .before .before .before in
     let st = l .before .before .before .before .before .before .before in
-    (l .loop .inv .0 .ran .now-at, on n .0, on n .1, omega (arith, st .pre .1, l .loop .inv .4))
+    (l .loop .inv .0 .ran .now-at, on n .0, on n .1, omega (arith, st .pre .2, l .loop .inv .4))
 
 loop-less : tie.Need-loop-less Inv-loop μ-loop
 loop-less c =
     let p = c .before .before .before .before .before .before .before .before .before .before in
-    omega (arith, p .run-call .ensures .1 .0, p .run-call .ensures .1 .1)
+    omega (arith, p .run-call .ensures .1 .0 .0, p .run-call .ensures .1 .0 .1)
 
 loop-again : tie.Need-loop-again Inv-loop μ-loop
 loop-again c =
@@ -52,7 +52,7 @@ loop-again c =
     let a = l .before .before .before .before .before .before .before .args in
     let i = l .loop .inv in (
       going-next (length (now (a .work))) (length (l .loop .work)) (length (now (a .entries))) (length (l .loop .entries)) (now (a .list)) (now (a .s)) (now (a .out)) (a .first) (l .loop .s) (l .loop .out) (l .loop .t) _ _ (p .run-call .result)
-          (i .2) (i .3) (i .0) (p .run-call .ensures .0) (p .run-call .ensures .1 .0),
+          (i .2) (i .3) (i .0) (p .run-call .ensures .0) (p .run-call .ensures .1 .0 .0) (on (p .before .before .before .before .before .before) .0) (p .run-call .ensures .1 .1),
       c .before .before .before .before .before .before .before .before .before .s .given ∙ i .1,
       c .before .before .before .before .before .before .before .work .given ∙ i .2,
       c .before .before .before .before .before .entries .given ∙ i .3,
@@ -78,7 +78,7 @@ returns : tie.Need-returns Inv-loop μ-loop
 returns c =
     let l = c .before .before .before .loop in
     let g = l .inv .0 in
-    (g .ran, λ h e. g .forth h (goes-on-false (l .t .ended) (length (l .out)) (l .t .at) (sym (c .before .goes-on .ensures) ∙ c .if1 .left) e))
+    (g .ran, ((λ h e. g .forth h (goes-on-false (l .t .ended) (length (l .out)) (l .t .at) (sym (c .before .goes-on .ensures) ∙ c .if1 .left) e)), g .went))
 
 pub run-calls-spec : {M : Type 1} → statement M
 run-calls-spec =

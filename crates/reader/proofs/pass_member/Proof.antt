@@ -20,7 +20,7 @@ slot-read c =
     let s = now (a .s) in
     let g = c .before .form .given .0 in
     let e : c .before .before .before .read-slot .result ≡ slot.Value (g .0) (g .1 .0) = search needs in
-    got (slot-answer s) (slot-next (length s)) e (c .before .before .before .read-slot .ensures)
+    got (slot-answer s) slot-next e (c .before .before .before .read-slot .ensures)
 
 form-read : (c : tie.After-known-told2)
     → let a = c .before .before .before .before .before .before .before .before .before .args in let g = c .before .valued .given .0 in let s = now (a .s) in
@@ -30,23 +30,23 @@ form-read c =
     let s = now (a .s) in
     let g = c .before .valued .given .0 in
     let e : c .before .before .before .read-form .result ≡ form.Value (g .0) (g .1 .0) = search needs in
-    got (form-answer s) (form-next (length s)) e (c .before .before .before .read-form .ensures)
+    got (form-answer s) form-next e (c .before .before .before .read-form .ensures)
 
 form-fault : (c : tie.After-known-told3)
     → let a = c .before .before .before .before .before .before .before .before .before .args in let s = now (a .s) in
-    Reading (fault (c .before .n .given .0 .0)) (parse-form (drop (c .before .before .before .before .before .form .given .0 .1 .0 .at) s)) (c .before .before .before .before .before .form .given .0 .1 .0 .at) (length s) (length s)
+    Reading (fault (c .before .n .given .0 .0) (drop (c .before .n .given .0 .1 .0 .at) s)) (parse-form (drop (c .before .before .before .before .before .form .given .0 .1 .0 .at) s)) (c .before .before .before .before .before .form .given .0 .1 .0 .at) (c .before .n .given .0 .1 .0 .at) (length s)
 form-fault c =
     let s = now (c .before .before .before .before .before .before .before .before .before .args .s) in
-    let e : c .before .before .before .read-form .result ≡ form.Fault (c .before .n .given .0 .0) = search needs in
-    got (form-answer s) (form-next (length s)) e (c .before .before .before .read-form .ensures)
+    let e : c .before .before .before .read-form .result ≡ form.Fault (c .before .n .given .0 .0) (c .before .n .given .0 .1 .0) = search needs in
+    got (form-answer s) form-next e (c .before .before .before .read-form .ensures)
 
 slot-fault : (c : tie.After-known-told4)
     → let a = c .before .before .before .before .before .args in let s = now (a .s) in
-    Reading (fault (c .before .n2 .given .0 .0)) (parse-slot (drop (a .c .at) s)) (a .c .at) (length s) (length s)
+    Reading (fault (c .before .n2 .given .0 .0) (drop (c .before .n2 .given .0 .1 .0 .at) s)) (parse-slot (drop (a .c .at) s)) (a .c .at) (c .before .n2 .given .0 .1 .0 .at) (length s)
 slot-fault c =
     let s = now (c .before .before .before .before .before .args .s) in
-    let e : c .before .before .before .read-slot .result ≡ slot.Fault (c .before .n2 .given .0 .0) = search needs in
-    got (slot-answer s) (slot-next (length s)) e (c .before .before .before .read-slot .ensures)
+    let e : c .before .before .before .read-slot .result ≡ slot.Fault (c .before .n2 .given .0 .0) (c .before .n2 .given .0 .1 .0) = search needs in
+    got (slot-answer s) slot-next e (c .before .before .before .read-slot .ensures)
 
 read-slot-requires : tie.Need-read-slot-requires
 read-slot-requires c κs = search needs

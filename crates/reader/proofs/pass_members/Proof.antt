@@ -39,15 +39,15 @@ member-read c =
     let s = now (a .s) in
     let g = c .before .next .given .0 in
     let e : c .before .before .before .pass-member .result ≡ passed.Value (g .0) = search needs in
-    got (passed-answer s) (passed-next (length s)) e (c .before .before .before .pass-member .ensures)
+    got (passed-answer s) passed-next e (c .before .before .before .pass-member .ensures)
 
 member-fault : (c : tie.After-known-told2 Inv-loop μ-loop)
     → let a = c .before .before .before .before .before .before .before .args in let s = now (a .s) in
-    Reading (fault (c .before .n .given .0 .0)) (past-members 1 (drop (c .before .before .before .before .before .loop .at) s)) (c .before .before .before .before .before .loop .at) (length s) (length s)
+    Reading (fault (c .before .n .given .0 .0) (drop (c .before .n .given .0 .1 .0 .at) s)) (past-members 1 (drop (c .before .before .before .before .before .loop .at) s)) (c .before .before .before .before .before .loop .at) (c .before .n .given .0 .1 .0 .at) (length s)
 member-fault c =
     let s = now (c .before .before .before .before .before .before .before .args .s) in
-    let e : c .before .before .before .pass-member .result ≡ passed.Fault (c .before .n .given .0 .0) = search needs in
-    got (passed-answer s) (passed-next (length s)) e (c .before .before .before .pass-member .ensures)
+    let e : c .before .before .before .pass-member .result ≡ passed.Fault (c .before .n .given .0 .0) (c .before .n .given .0 .1 .0) = search needs in
+    got (passed-answer s) passed-next e (c .before .before .before .pass-member .ensures)
 
 loop-less : tie.Need-loop-less Inv-loop μ-loop
 loop-less c = search needs

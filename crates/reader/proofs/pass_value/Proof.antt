@@ -20,15 +20,15 @@ value-read c =
     let s = now (a .s) in
     let g = c .before .next .given .0 in
     let e : c .before .before .before .read-u256 .result ≡ word.Value (g .0) (g .1 .0) = search needs in
-    got (word-answer s) (word-next (length s)) e (c .before .before .before .read-u256 .ensures)
+    got (word-answer s) word-next e (c .before .before .before .read-u256 .ensures)
 
 value-fault : (c : tie.After-known-told2)
     → let a = c .before .before .before .before .before .before .args in let s = now (a .s) in
-    Reading (fault (c .before .n .given .0 .0)) (parse-u256 (drop (a .c .at) s)) (a .c .at) (length s) (length s)
+    Reading (fault (c .before .n .given .0 .0) (drop (c .before .n .given .0 .1 .0 .at) s)) (parse-u256 (drop (a .c .at) s)) (a .c .at) (c .before .n .given .0 .1 .0 .at) (length s)
 value-fault c =
     let s = now (c .before .before .before .before .before .before .args .s) in
-    let e : c .before .before .before .read-u256 .result ≡ word.Fault (c .before .n .given .0 .0) = search needs in
-    got (word-answer s) (word-next (length s)) e (c .before .before .before .read-u256 .ensures)
+    let e : c .before .before .before .read-u256 .result ≡ word.Fault (c .before .n .given .0 .0) (c .before .n .given .0 .1 .0) = search needs in
+    got (word-answer s) word-next e (c .before .before .before .read-u256 .ensures)
 
 read-u256-requires : tie.Need-read-u256-requires
 read-u256-requires c κs = search needs

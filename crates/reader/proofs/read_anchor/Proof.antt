@@ -24,7 +24,7 @@ number-read c =
     let s = now (c .before .before .before .before .before .args .s) in
     let g = c .before .number .given .0 in
     let e : c .before .before .before .read-number .result ≡ number.Value (g .0) (g .1 .0) = search needs in
-    got (number-answer s) (number-next (length s)) e (c .before .before .before .read-number .ensures)
+    got (number-answer s) number-next e (c .before .before .before .read-number .ensures)
 
 read-form-requires : tie.Need-read-form-requires
 read-form-requires c κs = number-read c .within
@@ -39,7 +39,7 @@ form-read c =
     let s = now (c .before .before .before .before .before .before .before .before .before .args .s) in
     let g = c .before .known .given .0 in
     let e : c .before .before .before .read-form .result ≡ form.Value (g .0) (g .1 .0) = search needs in
-    got (form-answer s) (form-next (length s)) e (c .before .before .before .read-form .ensures)
+    got (form-answer s) form-next e (c .before .before .before .read-form .ensures)
 
 read-hash-requires : tie.Need-read-hash-requires
 read-hash-requires c κs = form-read c .within
@@ -55,22 +55,22 @@ returns c = reading-then _ (number-read (c .before .before .before .before .befo
 
 form-fault : (c : tie.After-known-told3)
     → let a = c .before .before .before .before .before .before .before .before .before .args in let s = now (a .s) in
-    Reading (fault (c .before .n .given .0 .0)) (parse-form (drop (c .before .before .before .before .before .number .given .0 .1 .0 .at) s)) (c .before .before .before .before .before .number .given .0 .1 .0 .at) (length s) (length s)
+    Reading (fault (c .before .n .given .0 .0) (drop (c .before .n .given .0 .1 .0 .at) s)) (parse-form (drop (c .before .before .before .before .before .number .given .0 .1 .0 .at) s)) (c .before .before .before .before .before .number .given .0 .1 .0 .at) (c .before .n .given .0 .1 .0 .at) (length s)
 form-fault c =
     let s = now (c .before .before .before .before .before .before .before .before .before .args .s) in
-    let e : c .before .before .before .read-form .result ≡ form.Fault (c .before .n .given .0 .0) = search needs in
-    got (form-answer s) (form-next (length s)) e (c .before .before .before .read-form .ensures)
+    let e : c .before .before .before .read-form .result ≡ form.Fault (c .before .n .given .0 .0) (c .before .n .given .0 .1 .0) = search needs in
+    got (form-answer s) form-next e (c .before .before .before .read-form .ensures)
 
 returns-2 : tie.Need-returns-2
 returns-2 c = reading-then _ (number-read (c .before .before .before .before)) (reading-stop _ (form-fault c))
 
 number-fault : (c : tie.After-known-told4)
     → let a = c .before .before .before .before .before .args in let s = now (a .s) in
-    Reading (fault (c .before .n2 .given .0 .0)) (parse-number (drop (a .c .at) s)) (a .c .at) (length s) (length s)
+    Reading (fault (c .before .n2 .given .0 .0) (drop (c .before .n2 .given .0 .1 .0 .at) s)) (parse-number (drop (a .c .at) s)) (a .c .at) (c .before .n2 .given .0 .1 .0 .at) (length s)
 number-fault c =
     let s = now (c .before .before .before .before .before .args .s) in
-    let e : c .before .before .before .read-number .result ≡ number.Fault (c .before .n2 .given .0 .0) = search needs in
-    got (number-answer s) (number-next (length s)) e (c .before .before .before .read-number .ensures)
+    let e : c .before .before .before .read-number .result ≡ number.Fault (c .before .n2 .given .0 .0) (c .before .n2 .given .0 .1 .0) = search needs in
+    got (number-answer s) number-next e (c .before .before .before .read-number .ensures)
 
 returns-3 : tie.Need-returns-3
 returns-3 c = reading-stop _ (number-fault c)

@@ -20,7 +20,7 @@ count-read c =
     let s = now (a .s) in
     let g = c .before .count .given .0 in
     let e : c .before .before .before .read-number .result ≡ number.Value (g .0) (g .1 .0) = search needs in
-    got (number-answer s) (number-next (length s)) e (c .before .before .before .read-number .ensures)
+    got (number-answer s) number-next e (c .before .before .before .read-number .ensures)
 
 members-read : (c : tie.After-known-told2)
     → let a = c .before .before .before .before .before .before .before .before .before .args in let g = c .before .next .given .0 in let s = now (a .s) in
@@ -30,23 +30,23 @@ members-read c =
     let s = now (a .s) in
     let g = c .before .next .given .0 in
     let e : c .before .before .before .pass-members .result ≡ passed.Value (g .0) = search needs in
-    got (passed-answer s) (passed-next (length s)) e (c .before .before .before .pass-members .ensures)
+    got (passed-answer s) passed-next e (c .before .before .before .pass-members .ensures)
 
 members-fault : (c : tie.After-known-told3)
     → let a = c .before .before .before .before .before .before .before .before .before .args in let s = now (a .s) in
-    Reading (fault (c .before .n .given .0 .0)) (past-members (c .before .before .before .before .before .count .given .0 .0) (drop (c .before .before .before .before .before .count .given .0 .1 .0 .at) s)) (c .before .before .before .before .before .count .given .0 .1 .0 .at) (length s) (length s)
+    Reading (fault (c .before .n .given .0 .0) (drop (c .before .n .given .0 .1 .0 .at) s)) (past-members (c .before .before .before .before .before .count .given .0 .0) (drop (c .before .before .before .before .before .count .given .0 .1 .0 .at) s)) (c .before .before .before .before .before .count .given .0 .1 .0 .at) (c .before .n .given .0 .1 .0 .at) (length s)
 members-fault c =
     let s = now (c .before .before .before .before .before .before .before .before .before .args .s) in
-    let e : c .before .before .before .pass-members .result ≡ passed.Fault (c .before .n .given .0 .0) = search needs in
-    got (passed-answer s) (passed-next (length s)) e (c .before .before .before .pass-members .ensures)
+    let e : c .before .before .before .pass-members .result ≡ passed.Fault (c .before .n .given .0 .0) (c .before .n .given .0 .1 .0) = search needs in
+    got (passed-answer s) passed-next e (c .before .before .before .pass-members .ensures)
 
 count-fault : (c : tie.After-known-told4)
     → let a = c .before .before .before .before .before .args in let s = now (a .s) in
-    Reading (fault (c .before .n2 .given .0 .0)) (parse-number (drop (a .c .at) s)) (a .c .at) (length s) (length s)
+    Reading (fault (c .before .n2 .given .0 .0) (drop (c .before .n2 .given .0 .1 .0 .at) s)) (parse-number (drop (a .c .at) s)) (a .c .at) (c .before .n2 .given .0 .1 .0 .at) (length s)
 count-fault c =
     let s = now (c .before .before .before .before .before .args .s) in
-    let e : c .before .before .before .read-number .result ≡ number.Fault (c .before .n2 .given .0 .0) = search needs in
-    got (number-answer s) (number-next (length s)) e (c .before .before .before .read-number .ensures)
+    let e : c .before .before .before .read-number .result ≡ number.Fault (c .before .n2 .given .0 .0) (c .before .n2 .given .0 .1 .0) = search needs in
+    got (number-answer s) number-next e (c .before .before .before .read-number .ensures)
 
 read-number-requires : tie.Need-read-number-requires
 read-number-requires c κs = search needs

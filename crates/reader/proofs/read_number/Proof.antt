@@ -37,9 +37,6 @@ shared-slice-read-wide c = search needs
 wide-requires : tie.Need-wide-requires Inv-loop μ-loop
 wide-requires c κs = search needs
 
-add-at : tie.Need-add-at Inv-loop μ-loop
-add-at c = search needs
-
 overlong-requires : tie.Need-overlong-requires Inv-loop μ-loop
 overlong-requires c κs = search needs
 
@@ -49,11 +46,14 @@ returns-2 c =
     let a = c .before .before .before .before .before .before .before .before .before .args in
     record { means = sym (group-overlong (l .left) (l .left - 1) (l .worth) (l .sum) (l .at) (c .before .before .before .wide .result) (now (a .s)) (omega arith) (omega arith) (c .before .before .before .wide .ensures) (omega arith) (sym (c .before .overlong .ensures) ∙ c .if3 .taken)) ∙ l .inv .5; forward = omega arith; within = omega arith }
 
-mul-t13 : tie.Need-mul-t13 Inv-loop μ-loop
-mul-t13 c = let l = c .before .before .before .before .before .before .before .loop in omega (arith, worth-fits (9 - l .left) (l .worth) (l .inv .3) (omega arith), group-fits (l .worth) (c .before .before .before .wide .result) (omega arith))
+mul-t16 : tie.Need-mul-t16 Inv-loop μ-loop
+mul-t16 c = let l = c .before .before .before .before .before .before .before .loop in omega (arith, worth-fits (9 - l .left) (l .worth) (l .inv .3) (omega arith), group-fits (l .worth) (c .before .before .before .wide .result) (omega arith))
 
-add-t14 : tie.Need-add-t14 Inv-loop μ-loop
-add-t14 c = let l = c .before .before .before .before .before .before .before .loop in omega (arith, worth-fits (9 - l .left) (l .worth) (l .inv .3) (omega arith), group-fits (l .worth) (c .before .before .before .wide .result) (omega arith))
+add-t17 : tie.Need-add-t17 Inv-loop μ-loop
+add-t17 c = let l = c .before .before .before .before .before .before .before .loop in omega (arith, worth-fits (9 - l .left) (l .worth) (l .inv .3) (omega arith), group-fits (l .worth) (c .before .before .before .wide .result) (omega arith))
+
+add-t18 : tie.Need-add-t18 Inv-loop μ-loop
+add-t18 c = search needs
 
 returns-3 : tie.Need-returns-3 Inv-loop μ-loop
 returns-3 c =
@@ -81,6 +81,9 @@ mul-worth c =
 
 sub-left : tie.Need-sub-left Inv-loop μ-loop
 sub-left c = search needs
+
+add-at : tie.Need-add-at Inv-loop μ-loop
+add-at c = search needs
 
 loop-less : tie.Need-loop-less Inv-loop μ-loop
 loop-less c = search needs
@@ -122,16 +125,17 @@ read-number-spec =
     returns
     shared-slice-read-wide
     wide-requires
-    add-at
     overlong-requires
     returns-2
-    mul-t13
-    add-t14
+    mul-t16
+    add-t17
+    add-t18
     returns-3
     mul-sum
     add-sum
     mul-worth
     sub-left
+    add-at
     loop-less
     loop-again
     read-tenth-requires

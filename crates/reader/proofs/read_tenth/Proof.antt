@@ -13,11 +13,11 @@ returns c = let a = c .before .args in record { means = sym (number-ends 0 (a .w
 shared-slice-read-if2 : tie.Need-shared-slice-read-if2
 shared-slice-read-if2 c = search needs
 
-add-t10 : tie.Need-add-t10
-add-t10 c = search needs
+add-t12 : tie.Need-add-t12
+add-t12 c = search needs
 
-add-t11 : tie.Need-add-t11
-add-t11 c = search needs
+add-t13 : tie.Need-add-t13
+add-t13 c = search needs
 
 returns-2 : tie.Need-returns-2
 returns-2 c = let a = c .before .before .before .args in record { means = sym (tenth-one (a .worth) (a .sum) (a .at) (now (a .s)) (omega arith) (c .if2 .taken)); forward = omega arith; within = omega arith }
@@ -27,4 +27,4 @@ returns-3 c = let a = c .before .before .before .args in record { means = sym (t
 
 pub read-tenth-spec : {M : Type 1} → statement M
 read-tenth-spec =
-    tie.close (tie.spec returns shared-slice-read-if2 add-t10 add-t11 returns-2 returns-3)
+    tie.close (tie.spec returns shared-slice-read-if2 add-t12 add-t13 returns-2 returns-3)

@@ -1,9 +1,7 @@
 -- `recorded_calls::print_next` meets its contract: the place after a call is further on, and in the list. Assumes nothing.
-use mathlib.Core.Path.{ap}
+use mathlib.Core.Path.{ap, subst}
 use native.Mathlib.Omega.{arith}
-use lib.ListN.{length}
-use denote.Ref.{now}
-use Rattle.call_reader.specs.Calls.{call-next}
+use Rattle.call_reader.specs.Calls.{call-next, call-progress}
 use borrow.Author.Needs.{needs}
 use Rattle.recorded_calls.proofs.print_next.Statement.{statement}
 use Rattle.recorded_calls.proofs.print_next.Tie as tie
@@ -17,7 +15,7 @@ enum-known-call c = search needs
 print-detail-requires : tie.Need-print-detail-requires
 print-detail-requires c κs =
     let ru = c .before .before .before .before in
-    let q = ap (call-next (length (now (ru .before .before .before .args .list)))) (c .before .before .call .given .1) in
+    let q = ap call-next (c .before .before .call .given .1) in
     (omega (arith, q, ru .read-call .ensures .0 .forward), omega (arith, q, ru .read-call .ensures .0 .within))
 
 enum-known-n : tie.Need-enum-known-n
@@ -44,8 +42,9 @@ same-length c = search needs
 returns : tie.Need-returns
 returns c =
     let ru = c .before .before .before .before .before .before .before in
-    let q = ap (call-next (length (now (ru .before .before .before .args .list)))) (c .before .before .before .before .before .call .given .1) in
-    (omega (arith, q, ru .read-call .ensures .1 .0 (ru .before .before .before .pre)), omega (arith, q, ru .read-call .ensures .0 .within))
+    let e = c .before .before .before .before .before .call .given .1 in
+    let q = ap call-next e in
+    (subst (call-progress (ru .before .before .before .args .at)) e (ru .read-call .ensures .1 .0), omega (arith, q, ru .read-call .ensures .0 .within))
 
 returns-2 : tie.Need-returns-2
 returns-2 c = search needs
