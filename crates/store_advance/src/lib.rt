@@ -5,7 +5,7 @@ use model::storage_memo::ReadAnchor;
 ghost use Rattle.image.specs.Image.{bytes-step};
 ghost use Rattle.known_advance.specs.Reports.{AdvancedAs, advance-call};
 
-// One block on (`apply_prepared`): already current, carried, or cold. Refused by 20, 6, 7, 9 and 23.
+// One block on (`apply_prepared`): already current, carried, or cold. Refused by 20, 6, 7, 9 and 23. What `work` holds after it is free.
 pub fn advance(
     s: &mut [u8],
     child: ReadAnchor,
