@@ -69,7 +69,8 @@ write-counts w l = length (w .applied) ∷ w .overwritten ∷ w .skipped ∷ l
 abbrev pub delta-line : CarryOutcome → DeltaReport → List ℕ
 delta-line AlreadyCurrent d = line (ascii "current") (decimals (d .held ∷ d .live ∷ []))
 delta-line (Carried n) d =
-    line (ascii "carried") (decimals (n ∷ write-counts (d .writes) (d .held ∷ d .live ∷ d .compaction .merged ∷ d .compaction .left ∷ d .compaction .dropped ∷ [])))
+    let c : CompactionReport = d .compaction in
+    line (ascii "carried") (decimals (n ∷ write-counts (d .writes) (d .held ∷ d .live ∷ c .merged ∷ c .left ∷ c .dropped ∷ [])))
 delta-line (Cold l k) d = line (ascii "cold") (decimals (lineage-number l ∷ skip-number k ∷ write-counts (d .writes) (d .held ∷ d .live ∷ [])))
 
 -- The lines of an accepted call.

@@ -1,4 +1,4 @@
-// The program `calls`: the first 65,536 bytes of standard input are a call list; its listing goes to standard output.
+// The program `calls`: the first 65,536 bytes of standard input are a call list; its listing goes to standard output. docs/REFERENCE.md has the form of both.
 use libc::STDIN_FILENO;
 use libc::STDOUT_FILENO;
 

@@ -14,7 +14,8 @@ use Rattle.model.specs.Numbers.{Bytes}
 use Rattle.model.specs.Layers.{Record, Layer, record-count, is-some}
 use Rattle.model.proofs.SlotLaws.{and-left, and-right, and-true, and-false}
 use Rattle.image.specs.WellFormed.{rising}
-use Rattle.image.specs.Image.{words-of, magic, flat-records, layer-ends, read-record, read-retention, entries, Cut, cut, store-words, decode}
+use Rattle.model.specs.Refusals.{store-words}
+use Rattle.image.specs.Image.{words-of, magic, flat-records, layer-ends, read-record, read-retention, entries, Cut, cut, decode}
 use Rattle.image.specs.Area.{records-of}
 use Rattle.image.proofs.Words.{length-words-of}
 use Rattle.image.proofs.Entries.{length-ends}

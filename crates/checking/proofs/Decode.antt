@@ -14,7 +14,8 @@ use Rattle.model.specs.Slots.{words-eqb}
 use Rattle.model.specs.Layers.{is-some}
 use Rattle.model.specs.Store.{Store}
 use Rattle.image.specs.WellFormed.{well-formed}
-use Rattle.image.specs.Image.{words-of, image-words, read-store, store-words, decode}
+use Rattle.model.specs.Refusals.{store-words}
+use Rattle.image.specs.Image.{words-of, image-words, read-store, decode}
 use Rattle.image.proofs.Words.{length-words-of}
 use Rattle.checking.specs.Checks.{bytes-right, capacity-of}
 use Rattle.checking.proofs.Bools.{and-under}

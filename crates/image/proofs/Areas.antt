@@ -18,7 +18,8 @@ use Rattle.model.specs.Layers.{Record, Layer, held-value, freshest-use, record-
 use Rattle.model.specs.Store.{Config, Generation, Store, chain}
 use Rattle.model.proofs.SlotLaws.{split, and-left, and-right, and-intro}
 use Rattle.image.specs.WellFormed.{slot-fits, content-fits, every, rising, content-ok, chain-ok, installed-ok, well-formed}
-use Rattle.image.specs.Image.{words-of, retention-words, hash-words, totals-words, record-words, all-record-words, all-pending-words, flat-records, layer-ends, padded, magic, config-words, generation-words, table-words, installed-words, image-words, read-record, read-pending, entries, read-hash, store-words, decode}
+use Rattle.model.specs.Refusals.{store-words}
+use Rattle.image.specs.Image.{words-of, retention-words, hash-words, totals-words, record-words, all-record-words, all-pending-words, flat-records, layer-ends, padded, magic, config-words, generation-words, table-words, installed-words, image-words, read-record, read-pending, entries, read-hash, decode}
 use Rattle.image.specs.Area.{records-of, pending-of, layers-below}
 use Rattle.image.specs.Lent.{layer-of}
 use Rattle.image.proofs.Entries.{length-records, read-records, length-flat, length-ends, length-pending, read-pendings}

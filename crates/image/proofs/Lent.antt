@@ -11,7 +11,8 @@ use borrow.Author.Tests.{eqb-true}
 use Rattle.model.specs.Layers.{is-some}
 use Rattle.model.specs.Store.{Generation, Store, Memory}
 use Rattle.model.proofs.SlotLaws.{split, not-both}
-use Rattle.image.specs.Image.{words-of, image-words, read-store, store-words, decode}
+use Rattle.model.specs.Refusals.{store-words}
+use Rattle.image.specs.Image.{words-of, image-words, read-store, decode}
 use Rattle.image.specs.WellFormed.{well-formed}
 use Rattle.model.specs.Slots.{words-eqb}
 use Rattle.model.specs.Numbers.{num}

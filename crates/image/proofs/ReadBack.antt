@@ -19,11 +19,11 @@ use Rattle.model.specs.Slots.{words-eqb}
 use Rattle.model.specs.Layers.{Record, Layer, record-count}
 use Rattle.model.specs.Reads.{Pending}
 use Rattle.model.specs.Store.{Config, Generation, Store, chain, Memory}
-use Rattle.model.specs.Refusals.{store-size}
+use Rattle.model.specs.Refusals.{store-size, store-words}
 use Rattle.model.proofs.SlotLaws.{and-left, and-right, and-intro, words-eqb-true, words-eqb-refl}
 use Rattle.image.specs.WellFormed.{installed-ok, well-formed}
 use Rattle.model.specs.Numbers.{num, Bytes}
-use Rattle.image.specs.Image.{bytes-of, words-of, all-record-words, all-pending-words, flat-records, layer-ends, padded, config-words, generation-words, table-words, installed-words, image-words, image, read-record, read-pending, entries, Cut, cut, read-generation, read-store, store-words, decode}
+use Rattle.image.specs.Image.{bytes-of, words-of, all-record-words, all-pending-words, flat-records, layer-ends, padded, config-words, generation-words, table-words, installed-words, image-words, image, read-record, read-pending, entries, Cut, cut, read-generation, read-store, decode}
 use Rattle.image.specs.Claims.{ImageReadsBack}
 use Rattle.image.proofs.Words.{length-padded, length-bytes-of, length-words-of, second-word, words-of-bytes, bytes-of-words}
 use Rattle.image.proofs.Entries.{read-records, length-flat, length-ends, cut-back, read-pendings}

@@ -19,7 +19,8 @@ use Rattle.model.specs.declared.read_hub.ReadTotals.{ReadTotals}
 use Rattle.model.specs.Reads.{Pending, no-reads}
 use Rattle.model.specs.Store.{Config, Generation, Store, Call, chain, Memory}
 use Rattle.model.specs.Numbers.{be, num}
-use Rattle.model.specs.Refusals.{LentCall, StepResult, Answer, refused, step}
+use Rattle.model.specs.Refusals.{LentCall, StepResult, Answer, refused, step, store-words}
+use Rattle.words.specs.Parts.{part}
 use Rattle.image.specs.WellFormed.{well-formed}
 
 -- Words in bytes --------------------------------------------------------------------------------------
@@ -69,7 +70,7 @@ unfoldable pub all-pending-words : List Pending → List ℕ
 all-pending-words [] = []
 all-pending-words (w ∷ q) = pending-words w ++ all-pending-words q
 
--- The records of layers (the newest first) in the store's order: the lowest layer first.
+-- The records of layers (the newest first) in the store's order: the lowest layer first. That records rise by layer is enforced here: the words have to be those of the layers' records in this order.
 unfoldable pub flat-records : List Layer → List Record
 flat-records [] = []
 flat-records (l ∷ ls) = flat-records ls ++ l
@@ -94,15 +95,19 @@ config-words cfg = magic ∷ cfg .capacity ∷ cfg .max-depth ∷ retention-word
 -- Words 5 to 23: whether a generation is installed, its anchor, depth, numbers of records and awaiting slots, totals.
 abbrev pub generation-words : Generation → List ℕ
 generation-words g =
-    1 ∷ g .anchor .number ∷ (hash-words (g .anchor .hash) ++ (pred (length (g .base)) ∷ record-count (chain g) ∷ length (g .pending) ∷ totals-words (g .totals)))
+    1 ∷ g .anchor .number
+    ∷ (hash-words (g .anchor .hash) ++ (pred (length (g .base)) ∷ record-count (chain g) ∷ length (g .pending) ∷ totals-words (g .totals)))
 
 -- From word 24 on: 256 layer ends, 64 awaiting slots, the records up to the capacity.
 abbrev pub table-words : ℕ → List ℕ → List ℕ → List ℕ → List ℕ
 table-words capacity ends awaiting records = padded 256 ends ++ (padded 576 awaiting ++ padded (13 * capacity) records)
 
+-- With nothing installed all these words are 0: that a store then holds nothing is enforced here.
 abbrev pub installed-words : ℕ → Option Generation → List ℕ
 installed-words capacity none = replicate 19 0 ++ table-words capacity [] [] []
-installed-words capacity (some g) = generation-words g ++ table-words capacity (layer-ends (g .base)) (all-pending-words (g .pending)) (all-record-words (flat-records (chain g)))
+installed-words capacity (some g) =
+    generation-words g
+    ++ table-words capacity (layer-ends (g .base)) (all-pending-words (g .pending)) (all-record-words (flat-records (chain g)))
 
 unfoldable pub image-words : Store → List ℕ
 image-words st = config-words (st .config) ++ installed-words (st .config .capacity) (st .installed)
@@ -112,10 +117,6 @@ unfoldable pub image : Store → List ℕ
 image st = bytes-of (image-words st)
 
 -- Reading a state ---------------------------------------------------------------------------------------
-
--- The n words from place i on.
-abbrev pub part : ℕ → ℕ → List ℕ → List ℕ
-part i n l = take n (drop i l)
 
 abbrev pub read-u256 : List ℕ → U256
 read-u256 l = record { w0 = getD l 0 0; w1 = getD l 1 0; w2 = getD l 2 0; w3 = getD l 3 0 }
@@ -153,7 +154,18 @@ abbrev pub read-hash : List ℕ → BlockHash
 read-hash l = cond (eqb (getD l 0 0) 0) Unknown (Known (read-u256 (drop 1 l)))
 
 abbrev pub read-totals : List ℕ → ReadTotals
-read-totals l = record { accepted = getD l 0 0; served = getD l 1 0; waiting = getD l 2 0; valued = getD l 3 0; refused = getD l 4 0; rounds = getD l 5 0; members = getD l 6 0; errors = getD l 7 0; coalesced = getD l 8 0 }
+read-totals l =
+    record {
+      accepted = getD l 0 0;
+      served = getD l 1 0;
+      waiting = getD l 2 0;
+      valued = getD l 3 0;
+      refused = getD l 4 0;
+      rounds = getD l 5 0;
+      members = getD l 6 0;
+      errors = getD l 7 0;
+      coalesced = getD l 8 0;
+    }
 
 -- The generation that the words of a store give.
 unfoldable pub read-generation : List ℕ → Generation
@@ -173,10 +185,6 @@ read-store l =
       config = record { capacity = getD l 1 0; max-depth = getD l 2 0; retention = read-retention (drop 3 l) };
       installed = cond (eqb (getD l 5 0) 0) none (some (read-generation l));
     }
-
--- The number of words of a store of a capacity.
-abbrev pub store-words : ℕ → ℕ
-store-words capacity = 856 + 13 * capacity
 
 -- The lent bytes as a store: they begin with the image of the well-formed state that they read as, or they are not a store. Bytes past the image are no part of it.
 unfoldable pub decode : List ℕ → Memory

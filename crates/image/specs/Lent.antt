@@ -7,7 +7,8 @@ use lib.ListN.{length, take, drop, getD}
 use Rattle.model.specs.Numbers.{num}
 use Rattle.model.specs.Layers.{Layer}
 use Rattle.model.specs.Store.{Generation, Store}
-use Rattle.image.specs.Image.{words-of, read-generation, read-store, store-words, decode}
+use Rattle.model.specs.Refusals.{store-words}
+use Rattle.image.specs.Image.{words-of, read-generation, read-store, decode}
 
 -- The words of a store that bytes begin with, by the capacity in its second word.
 unfoldable pub words-in : List ℕ → List ℕ

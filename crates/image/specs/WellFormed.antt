@@ -74,11 +74,13 @@ abbrev pub content-ok : ℕ → Option Value → Option LastUse → Content → 
 content-ok now h f (use-only u) = is-some h && (at-most f u && leb u now)
 content-ok now h f (valued u v) = at-most f u && leb u now
 
--- Every layer rises, and each of its records is right over the layers below and fits.
+-- Every layer rises, and each of its records is right over the layers below and fits. That records rise by layer, too, is enforced by `flat-records` and the layer ends (Image).
 unfoldable pub chain-ok : ℕ → List Layer → Bool
 chain-ok now [] = true
 chain-ok now (l ∷ ls) =
-    rising l && (every (λ s c. content-ok now (held-value s ls) (freshest-use s ls) c) l && (every (λ s c. slot-fits s && content-fits c) l && chain-ok now ls))
+    rising l
+    && (every (λ s c. content-ok now (held-value s ls) (freshest-use s ls) c) l
+    && (every (λ s c. slot-fits s && content-fits c) l && chain-ok now ls))
 
 -- A record of the top without a value: its freshest use in the base serves at the installed number.
 abbrev pub use-serves : Retention → ℕ → Option LastUse → Bool
@@ -109,7 +111,7 @@ unfoldable pub all-waiters : List Pending → ℕ
 all-waiters [] = 0
 all-waiters (w ∷ q) = w .waiters + all-waiters q
 
--- The read totals add up. Waiting is the sum of the awaiting slots' waiters.
+-- The read totals add up, and accepted reads are at most 4,294,967,295. Waiting is the sum of the awaiting slots' waiters.
 unfoldable pub totals-ok : List Pending → ReadTotals → Bool
 totals-ok q t =
     leb (t .accepted) 4294967295
@@ -131,9 +133,11 @@ sizes-ok cfg g = ltb 0 (length (g .base)) && (leb (length (g .base)) (suc (cfg .
 
 unfoldable pub generation-ok : Config → Generation → Bool
 generation-ok cfg g =
-    anchor-fits (g .anchor) && (records-ok (cfg .retention) g && (sizes-ok cfg g && (pending-ok (g .pending) && (leb (length (g .pending)) 64 && totals-ok (g .pending) (g .totals)))))
+    anchor-fits (g .anchor)
+    && (records-ok (cfg .retention) g
+    && (sizes-ok cfg g && (pending-ok (g .pending) && (leb (length (g .pending)) 64 && totals-ok (g .pending) (g .totals)))))
 
--- With nothing installed a store holds nothing.
+-- With nothing installed a store holds nothing: there is no generation to hold records, and `installed-words` (Image) has every word of it 0.
 abbrev pub installed-ok : Config → Option Generation → Bool
 installed-ok cfg none = true
 installed-ok cfg (some g) = generation-ok cfg g

@@ -149,6 +149,7 @@ begun-by b a n ws t u f e q w p r =
 pub opened-by : (b : List ℕ) (n d depth : ℕ) (R : Retention) (ws t u : List ℕ) → store-size n ≤ length b → depth ≡ max 1 d → ws ≡ retention-words R
     → t ≡ placed 0 (replicate (6848 + 104 * n) 0) b → u ≡ placed 0 (bytes-of (magic ∷ n ∷ depth ∷ ws)) t → u ≡ overlay (empty (config-of n d R)) b
 opened-by b n d depth R ws t u h q w p r =
-    r ∙ ap₂ (λ (x y : List ℕ). placed 0 (bytes-of (magic ∷ n ∷ depth ∷ x)) y) w p
-    ∙ ap (λ (i : ℕ). placed 0 (bytes-of (magic ∷ n ∷ i ∷ retention-words R)) (placed 0 (replicate (6848 + 104 * n) 0) b)) q
+    let m : 6848 + 104 * n ≡ store-size n = omega arith in
+    r ∙ ap₂ (λ (x y : List ℕ). placed 0 (bytes-of (magic ∷ n ∷ depth ∷ x)) y) w (p ∙ ap (λ (i : ℕ). placed 0 (replicate i 0) b) m)
+    ∙ ap (λ (i : ℕ). placed 0 (bytes-of (magic ∷ n ∷ i ∷ retention-words R)) (placed 0 (replicate (store-size n) 0) b)) q
     ∙ sym (open-bytes b (config-of n d R) h)

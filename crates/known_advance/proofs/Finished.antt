@@ -91,7 +91,7 @@ module _ (s w addresses writes out : List ℕ) (outcome : CarryOutcome) (c : Com
     decodes = t .installed .is-store ∙ ap some made-is
 
     size : length (image made) ≡ 6848 + 104 * cfg .capacity
-    size = length-image made (decode-some w' made decodes .right)
+    size = omega (arith, length-image made (decode-some w' made decodes .right))
 
     copied : (cap : ℕ) (s' : List ℕ) → cap ≡ num (part 8 8 s) → s' ≡ placed 0 (take (6848 + 104 * cap) w') s → s' ≡ overlay (some made) s
     copied cap s' e q =

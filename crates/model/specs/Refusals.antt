@@ -17,9 +17,12 @@ pub record Lent : Type 0 where
   pub work-bytes : ℕ
   pub output-entries : ℕ
 
--- The bytes that a store of a capacity needs (docs/LAYOUT.md). An advance's work area needs as many: it holds the store that is to be.
+-- The words of eight bytes that a store of a capacity has (docs/LAYOUT.md), and its bytes. An advance's work area needs as many: it holds the store that is to be.
+abbrev pub store-words : ℕ → ℕ
+store-words capacity = 856 + 13 * capacity
+
 abbrev pub store-size : ℕ → ℕ
-store-size capacity = 6848 + 104 * capacity
+store-size capacity = 8 * store-words capacity
 
 abbrev pub work-size : ℕ → ℕ
 work-size capacity = store-size capacity

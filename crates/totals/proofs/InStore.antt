@@ -13,7 +13,8 @@ use Rattle.model.specs.declared.delta_snapshot.Retention.the-variants.{Unbounde
 use Rattle.model.specs.declared.read_hub.ReadTotals.{ReadTotals}
 use Rattle.model.specs.Layers.{record-count}
 use Rattle.model.specs.Store.{Config, Generation, Store, chain}
-use Rattle.image.specs.Image.{bytes-of, magic, retention-words, hash-words, totals-words, layer-ends, flat-records, all-pending-words, all-record-words, table-words, read-totals, store-words, image-words, image}
+use Rattle.model.specs.Refusals.{store-words}
+use Rattle.image.specs.Image.{bytes-of, magic, retention-words, hash-words, totals-words, layer-ends, flat-records, all-pending-words, all-record-words, table-words, read-totals, image-words, image}
 use Rattle.image.proofs.Words.{length-bytes-of}
 use Rattle.image.proofs.ReadBack.{Begins}
 use Rattle.totals.specs.Totals.{totals-of, with-totals}

@@ -1,5 +1,6 @@
 -- `store::open` meets its contract: 1, 2, 9, or what `known::open` does. Assumes nothing.
 use denote.Ref.{now}
+use native.Mathlib.Omega.{arith}
 use Rattle.known.proofs.Said.{said-1-none, said-1, said-2, said-9}
 use borrow.Author.Needs.{needs}
 use Rattle.store.proofs.open.Statement.{statement}
@@ -29,7 +30,7 @@ add-if4 c = search needs
 returns-4 : tie.Need-returns-4
 returns-4 c =
     let a = c .before .before .before .before .before .args in
-    said-9 (now (a .s)) (a .capacity) (a .max-depth) (a .retention) (c .before .before .before .if1 .left) (c .before .before .if2 .left) (c .before .if3 .left) (c .if4 .taken)
+    said-9 (now (a .s)) (a .capacity) (a .max-depth) (a .retention) (c .before .before .before .if1 .left) (c .before .before .if2 .left) (c .before .if3 .left) (omega (arith, c .if4 .taken))
 
 open-requires : tie.Need-open-requires
 open-requires c κs = search needs
