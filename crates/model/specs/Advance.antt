@@ -55,13 +55,14 @@ carries l k = eqb (lineage-number l) 0 && eqb (skip-number k) 0
 abbrev pub void-base : List Layer
 void-base = [] ∷ []
 
+-- (The case of no layer is a filler: a base has one.)
 unfoldable pub is-void : List Layer → Bool
 is-void [] = true
 is-void ([] ∷ []) = true
 is-void ([] ∷ (l ∷ ls)) = false
 is-void ((r ∷ l) ∷ ls) = false
 
--- One slot's part of a fold: its newest value and freshest use stay if the use serves.
+-- One slot's part of a fold: its newest value and freshest use stay if the use serves. (A slot without a use or without a value is a filler: every slot of a well-formed base has both.)
 abbrev pub compact-slot : Retention → ℕ → Slot → Option LastUse → Option Value → Layer → Layer
 compact-slot R now s none h l = l
 compact-slot R now s (some u) none l = l
@@ -72,7 +73,7 @@ unfoldable pub compact-slots : Retention → ℕ → List Layer → List Slot �
 compact-slots R now b [] = []
 compact-slots R now b (s ∷ ss) = compact-slot R now s (freshest-use s b) (held-value s b) (compact-slots R now b ss)
 
--- Whether a slot's use no longer serves.
+-- Whether a slot's use no longer serves. (No use is a filler: it is asked of slots with records.)
 abbrev pub lapsed : Retention → ℕ → Option LastUse → Bool
 lapsed R now none = false
 lapsed R now (some u) = not (serves R u now)
@@ -96,7 +97,8 @@ pub record Compaction : Type 0 where
 unfoldable pub compact : Retention → ℕ → List Layer → Compaction
 compact R now b =
     let l : Layer = compact-slots R now b (all-slots b) in
-    record { base = l ∷ []; report = record { merged = length b; left = length l; dropped = count-distinct (λ s. lapsed R now (freshest-use s b)) (all-slots b) } }
+    let gone : ℕ = count-distinct (λ s. lapsed R now (freshest-use s b)) (all-slots b) in
+    record { base = l ∷ []; report = record { merged = length b; left = length l; dropped = gone } }
 
 -- A fold if it is due, else the base as it is.
 abbrev pub compact-if : Bool → Retention → ℕ → List Layer → Compaction
@@ -132,7 +134,7 @@ abbrev pub unserved-kind : Bool → WriteKind
 unserved-kind true = new
 unserved-kind false = skip
 
--- What a write does, of the slot's freshest use.
+-- What a write does, of the slot's freshest use: served here asks of the use alone, with no look at the value.
 abbrev pub write-kind : Retention → ℕ → Bool → Option LastUse → WriteKind
 write-kind R now is-relevant none = unserved-kind is-relevant
 write-kind R now is-relevant (some u) = cond (serves R u now) (overwrite u) (unserved-kind is-relevant)

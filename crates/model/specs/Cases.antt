@@ -109,11 +109,13 @@ table =
     ∷ whole-case-row 9 (delta (Carried 0) [] 0 0 0 0 (record { merged = 2; left = 0; dropped = 1 }))
     ∷ whole-case-row 10 (refuse 22)
     -- lineage 2 at 2^64 − 1
-    ∷ run-row (after-install (identified (2 ^ 64 - 1) (small 1)) (advance-to 0 1 [] [] ∷ [])) (delta (Cold NotConsecutive Decoded) [] 0 0 0 0 no-compaction)
+    ∷ run-row (after-install (identified (2 ^ 64 - 1) (small 1)) (advance-to 0 1 [] [] ∷ []))
+    (delta (Cold NotConsecutive Decoded) [] 0 0 0 0 no-compaction)
     -- lineage 3
     ∷ run-row (after-install (at 5) (advance-to 6 5 [] [] ∷ [])) (delta (Cold ParentHashUnknown Decoded) [] 0 0 0 0 no-compaction)
     -- a sibling's child, one above with another parent hash, is cold 4 and carries nothing
-    ∷ run-row (after-install (block 5) (call-at 5 (put P (small 1)) ∷ advance-to 6 9 [] (write 9) ∷ [])) (delta (Cold ParentHashMismatch Decoded) [] 0 1 0 0 no-compaction)
+    ∷ run-row (after-install (block 5) (call-at 5 (put P (small 1)) ∷ advance-to 6 9 [] (write 9) ∷ []))
+    (delta (Cold ParentHashMismatch Decoded) [] 0 1 0 0 no-compaction)
     -- idle 1 against 5: a longer idle allowance does not serve more
     ∷ record { runs = late-write 1 ∷ late-write 5 ∷ []; answers = ok (value (small 2)) ∷ ok no-value ∷ [] }
     ∷ []

@@ -60,7 +60,7 @@ unfoldable pub freshest-use : Slot → List Layer → Option LastUse
 freshest-use s [] = none
 freshest-use s (l ∷ ls) = max-option (last-use-of (find s l)) (freshest-use s ls)
 
--- What a look answers, of a freshest use and a held value (`resolved_through_policy`): the value if the use serves.
+-- What a look answers, of a freshest use and a held value (`resolved_through_policy`): the value if the use serves. Served in this sense, with a value, is what looks, reads and the live count ask; a write asks of the freshest use alone (`write-kind`), which is the same on a well-formed store, where every slot with a record has a value.
 abbrev pub resolved-through-policy : Retention → ℕ → Option LastUse → Option Value → Option Value
 resolved-through-policy R now none h = none
 resolved-through-policy R now (some u) h = cond (serves R u now) h none

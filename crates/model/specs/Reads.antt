@@ -114,11 +114,44 @@ no-reads = record { accepted = 0; served = 0; waiting = 0; valued = 0; refused =
 
 -- The totals after a served read, and after a read that waits; `joined` says whether its slot was awaiting already.
 abbrev pub count-served : ReadTotals → ReadTotals
-count-served t = record { accepted = suc (t .accepted); served = suc (t .served); waiting = t .waiting; valued = t .valued; refused = t .refused; rounds = t .rounds; members = t .members; errors = t .errors; coalesced = t .coalesced }
+count-served t =
+    record {
+      accepted = suc (t .accepted);
+      served = suc (t .served);
+      waiting = t .waiting;
+      valued = t .valued;
+      refused = t .refused;
+      rounds = t .rounds;
+      members = t .members;
+      errors = t .errors;
+      coalesced = t .coalesced;
+    }
 
 abbrev pub count-waiting : Bool → ReadTotals → ReadTotals
-count-waiting joined t = record { accepted = suc (t .accepted); served = t .served; waiting = suc (t .waiting); valued = t .valued; refused = t .refused; rounds = t .rounds; members = t .members; errors = t .errors; coalesced = cond joined (suc (t .coalesced)) (t .coalesced) }
+count-waiting joined t =
+    record {
+      accepted = suc (t .accepted);
+      served = t .served;
+      waiting = suc (t .waiting);
+      valued = t .valued;
+      refused = t .refused;
+      rounds = t .rounds;
+      members = t .members;
+      errors = t .errors;
+      coalesced = cond joined (suc (t .coalesced)) (t .coalesced);
+    }
 
 -- The totals after an answer: of its slots (members), its refused members (errors), and the waiters that it wakes with a value and refused. An empty answer counts no round.
 abbrev pub count-answer : ℕ → ℕ → ℕ → ℕ → ReadTotals → ReadTotals
-count-answer m e v r t = record { accepted = t .accepted; served = t .served; waiting = t .waiting - (v + r); valued = t .valued + v; refused = t .refused + r; rounds = cond (eqb m 0) (t .rounds) (suc (t .rounds)); members = t .members + m; errors = t .errors + e; coalesced = t .coalesced }
+count-answer m e v r t =
+    record {
+      accepted = t .accepted;
+      served = t .served;
+      waiting = t .waiting - (v + r);
+      valued = t .valued + v;
+      refused = t .refused + r;
+      rounds = cond (eqb m 0) (t .rounds) (suc (t .rounds));
+      members = t .members + m;
+      errors = t .errors + e;
+      coalesced = t .coalesced;
+    }

@@ -110,7 +110,10 @@ fresh a = performed (new-generation a void-base []) anchor-fresh
 -- The generation over a base after the writes, and its report.
 abbrev pub after-writes : Config → ReadAnchor → List Layer → CarryOutcome → CompactionReport → SeededTop → Performed
 after-writes cfg child b outcome c z =
-    performed (new-generation child b (z .top)) (advanced (record { outcome = outcome; writes = z .applied-writes; held = held-count (z .top ∷ b); live = live-count (cfg .retention) (child .number) (z .top ∷ b); compaction = c }))
+    let held : ℕ = held-count (z .top ∷ b) in
+    let live : ℕ = live-count (cfg .retention) (child .number) (z .top ∷ b) in
+    performed (new-generation child b (z .top))
+    (advanced (record { outcome = outcome; writes = z .applied-writes; held = held; live = live; compaction = c }))
 
 -- A carry: the parent's base folded at the parent's number if due, its top sealed, then the writes.
 unfoldable pub carry : Config → Generation → ReadAnchor → List Address → List Write → Performed
@@ -127,7 +130,8 @@ cold-advance cfg child l k relevance ws =
 -- The report of an advance to the installed anchor.
 abbrev pub already-current : Config → Generation → Report
 already-current cfg g =
-    advanced (record { outcome = AlreadyCurrent; writes = no-writes; held = held-count (chain g); live = live-count (cfg .retention) (g .anchor .number) (chain g); compaction = no-compaction })
+    let live : ℕ = live-count (cfg .retention) (g .anchor .number) (chain g) in
+    advanced (record { outcome = AlreadyCurrent; writes = no-writes; held = held-count (chain g); live = live; compaction = no-compaction })
 
 -- Carried if linked and not skipped, else cold with both.
 abbrev pub carry-or-cold : Config → Generation → ReadAnchor → Lineage → BalSkip → List Address → List Write → Performed
@@ -158,7 +162,9 @@ perform-read g s (some v) = performed (with-reads g (touched-top g s) (g .pendin
 -- An answer to some slots: of the new top, the slots that it gives a value and those that it refuses, and the member errors.
 abbrev pub perform-answer : Generation → Layer → List Slot → List Slot → List Slot → ℕ → Performed
 perform-answer g t ss vs rs e =
-    performed (with-reads g t (remove-all-pending ss (g .pending)) (count-answer (length ss) e (woken vs (g .pending)) (woken rs (g .pending)) (g .totals))) (answered (length ss) e (woken ss (g .pending)))
+    let q : List Pending = g .pending in
+    performed (with-reads g t (remove-all-pending ss q) (count-answer (length ss) e (woken vs q) (woken rs q) (g .totals)))
+    (answered (length ss) e (woken ss q))
 
 -- The calls --------------------------------------------------------------------------------------------
 
@@ -169,14 +175,17 @@ perform-at cfg g (get s) = perform-get g s (resolved (cfg .retention) g s)
 perform-at cfg g (put s v) = performed (with-top g (settle (g .anchor .number) s v (g .top))) stored
 perform-at cfg g (read s) = perform-read g s (resolved (cfg .retention) g s)
 perform-at cfg g take = performed (with-reads g (g .top) (take-queued (g .pending)) (g .totals)) (listed (queued (g .pending)))
-perform-at cfg g (answer ms) = perform-answer g (settle-members (g .anchor .number) ms (g .top)) (member-slots ms) (valued-slots ms) (refused-slots ms) (length (refused-slots ms))
+perform-at cfg g (answer ms) =
+    perform-answer g (settle-members (g .anchor .number) ms (g .top)) (member-slots ms) (valued-slots ms) (refused-slots ms)
+    (length (refused-slots ms))
 perform-at cfg g (answer-failed ss) = perform-answer g (g .top) ss [] ss 0
 
--- With a generation installed, and with none: then nothing but an install or an advance is accepted.
+-- With a generation installed, and with none: then nothing but an install or an advance is accepted, and the case of another call is a filler, refused by 21.
 abbrev pub perform-some : Config → Generation → StoreCall → Performed
 perform-some cfg g (install a) = cond (anchor-eqb (g .anchor) a) (performed g anchor-same) (fresh a)
 perform-some cfg g (advance child parent-hash k relevance ws) =
-    cond (anchor-eqb (g .anchor) child) (performed g (already-current cfg g)) (carry-or-cold cfg g child (classify-link (some (g .anchor)) child parent-hash) (skip-of k) relevance ws)
+    cond (anchor-eqb (g .anchor) child) (performed g (already-current cfg g))
+    (carry-or-cold cfg g child (classify-link (some (g .anchor)) child parent-hash) (skip-of k) relevance ws)
 perform-some cfg g (at-anchor a c) = perform-at cfg g c
 
 abbrev pub perform-none : Config → StoreCall → Performed
@@ -202,7 +211,7 @@ pub record Accepted : Type 0 where
 abbrev pub after-call : Config → Performed → Accepted
 after-call cfg p = record { memory = some (record { config = cfg; installed = p .installed }); report = p .report }
 
--- What a call does if it is accepted. An open starts anew, with a depth limit of at least 1.
+-- What a call does if it is accepted. An open starts anew, with a depth limit of at least 1. (On memory that is no store another call is refused by 20: that case is a filler.)
 unfoldable pub accept : Memory → Call → Accepted
 accept m (open-store capacity depth R) =
     record { memory = some (record { config = record { capacity = capacity; max-depth = max 1 depth; retention = R }; installed = none }); report = opened }
