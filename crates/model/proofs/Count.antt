@@ -5,7 +5,7 @@ use mathlib.Core.Bool.{Bool, true, false, not, _&&_}
 use mathlib.Core.List.{List, [], _∷_}
 use Rattle.model.specs.Slots.{Slot, slot-eqb, mem}
 use Rattle.model.specs.Layers.{count-distinct}
-use Rattle.model.proofs.SlotLaws.{split, not-both, and-left, and-true, and-false, or-false-left, or-false-right, slot-eqb-true, slot-eqb-refl, slot-eqb-sym}
+use Rattle.model.proofs.SlotLaws.{split, not-both, and-left, and-true, and-false, or-left, or-right, or-false-left, or-false-right, slot-eqb-true, slot-eqb-refl, slot-eqb-sym}
 
 -- The test without one slot.
 abbrev excluding : Slot → (Slot → Bool) → Slot → Bool
@@ -60,3 +60,10 @@ count-same p (x ∷ xs) ys f g =
     ∙ sym (count-excluding-present p x ys px (g x px))))
     (λ px. rw px (count-same p xs ys
     (λ s e. mem-tail x s xs (f s e) (split (slot-eqb x s) (λ y. not-both e (rw (← slot-eqb-true x s y, px))) (λ y. y))) g)))
+
+-- Two tests that agree on a list's slots.
+pub count-agree : (p q : Slot → Bool) (l : List Slot) → ((s : Slot) → mem s l ≡ true → p s ≡ q s) → count-distinct p l ≡ count-distinct q l
+unfolding mem count-distinct
+count-agree p q [] f = refl
+count-agree p q (s ∷ l) f =
+    rw (f s (or-left (slot-eqb s s) (mem s l) (slot-eqb-refl s)), count-agree p q l (λ t e. f t (or-right (slot-eqb s t) (mem t l) e)))

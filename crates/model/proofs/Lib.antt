@@ -1,7 +1,12 @@
--- The proof of demand 3: laws of slots and layers, the relation between the store and the ledger, calls, runs, truth, and a witness; the twelve cases; laws of numbers in bytes.
+-- The proof of demand 3: laws of slots and layers, of the ledger's maps, rules and awaiting slots; the relation between the store and the ledger, calls, runs, truth, and a witness; the twelve cases; laws of numbers and entries in bytes.
 pub mod NumberLaws
+pub mod EntryLaws
 pub mod SlotLaws
+pub mod MapLaws
+pub mod RuleLaws
+pub mod AwaitingLaws
 pub mod SlotRelation
+pub mod WriteLaws
 pub mod LayerLaws
 pub mod Count
 pub mod Simulation

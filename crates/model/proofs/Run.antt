@@ -1,11 +1,12 @@
 -- Demand 3: over any list of calls the store serves and answers as the ledger does, and serves what is true.
 use mathlib.Core.Path.{_≡_, refl, sym, _∙_}
+use mathlib.Core.Bool.{false}
 use mathlib.Core.List.{List, [], _∷_, map}
 use mathlib.Core.Option.{Option, some, none}
 use Prim.Native.Nat.{ℕ, max}
 use Rattle.model.specs.Slots.{Slot}
 use Rattle.model.specs.Store.{Config, Generation, Memory, Call, open-store, on-store, Accepted, accept}
-use Rattle.model.specs.Refusals.{Lent, LentCall, refusal, Answer, refused, conclude, step, trace, final, another-anchor}
+use Rattle.model.specs.Refusals.{Lent, LentCall, refusal, Answer, refused, conclude, step, trace, final, another-anchor, answer-names-twice}
 use Rattle.model.specs.FlatLedger.{LedgerGeneration, ledger-generation, Ledger, LedgerStepResult, compared, compared-report, ledger-step, ledger-trace, ledger-final, ledger-serves}
 use Rattle.model.specs.TrueInputs.{Truth, true-call, TrueInputs, TrueMemory, serves-value}
 use Rattle.model.specs.Demand3.{calls-of, Demand3}
@@ -31,12 +32,13 @@ pub record AcceptAgrees (a : Accepted) (o : LedgerStepResult) : Type 0 where
   pub relation : MemoryRelation (a .memory) (o .ledger)
   pub report : compared-report (a .report) ≡ o .report
 
-pub accept-agrees : {m : Memory} {l : Option Ledger} → MemoryRelation m l → (c : Call) → AcceptAgrees (accept m c) (ledger-step l c)
+-- An accepted answer names no slot twice.
+pub accept-agrees : {m : Memory} {l : Option Ledger} → MemoryRelation m l → (c : Call) → answer-names-twice c ≡ false → AcceptAgrees (accept m c) (ledger-step l c)
 unfolding accept ledger-step
-accept-agrees r (open-store capacity depth R) = record { relation = both-open (record { capacity = capacity; max-depth = max 1 depth; retention = R }) both-empty; report = refl }
-accept-agrees no-store (on-store c) = record { relation = no-store; report = refl }
-accept-agrees (both-open cfg s) (on-store c) =
-    let z = perform-agrees cfg s c in
+accept-agrees r (open-store capacity depth R) d = record { relation = both-open (record { capacity = capacity; max-depth = max 1 depth; retention = R }) both-empty; report = refl }
+accept-agrees no-store (on-store c) d = record { relation = no-store; report = refl }
+accept-agrees (both-open cfg s) (on-store c) d =
+    let z = perform-agrees cfg s c d in
     record { relation = both-open cfg (z .relation); report = z .report }
 
 -- An accepted call whose input is true keeps the ledger true.
@@ -46,9 +48,9 @@ true-step truth r t lent (open-store capacity depth R) e q = tt
 true-step truth no-store t lent (on-store c) e q = tt
 true-step truth (both-open cfg both-empty) t lent (on-store c) e q =
     true-perform-none truth (cfg .retention) c (unrefused _ lent (on-store c) e .skip-without-writes) q
-true-step truth (both-open cfg (both-installed g m h)) t lent (on-store c) e q =
-    let a = unrefused _ lent (on-store c) e in
-    true-perform-some truth (cfg .retention) (ledger-generation (g .anchor) m (g .pending)) t c (a .skip-without-writes) (a .same-anchor) q
+true-step truth (both-open cfg (both-installed g m a h)) t lent (on-store c) e q =
+    let z = unrefused _ lent (on-store c) e in
+    true-perform-some truth (cfg .retention) (ledger-generation (g .anchor) m a) t c (z .skip-without-writes) (z .same-anchor) q
 
 -- Lists of calls ---------------------------------------------------------------------------------------
 
@@ -67,7 +69,7 @@ run-agrees-after m l c cs (some n) e r ih =
     let z = ih m l r in
     record { same-answers = cc (z .same-answers); relation = z .relation; keeps-true = z .keeps-true }
 run-agrees-after m l c cs none e r ih =
-    let a = accept-agrees r (c .call) in
+    let a = accept-agrees r (c .call) (unrefused m (c .lent) (c .call) e .answer-names-once) in
     let z = ih (accept m (c .call) .memory) (ledger-step l (c .call) .ledger) (a .relation) in
     record {
       same-answers = cc (a .report, z .same-answers);
@@ -86,12 +88,12 @@ run-agrees (c ∷ cs) m l r = run-agrees-after m l c cs (refusal m (c .lent) (c 
 pub serves-same : {m : Memory} {l : Option Ledger} → MemoryRelation m l → (s : Slot) → serves-value m s ≡ ledger-serves l s
 serves-same no-store s = refl
 serves-same (both-open cfg both-empty) s = refl
-serves-same (both-open cfg (both-installed g m h)) s = resolved-same (cfg .retention) g m h s
+serves-same (both-open cfg (both-installed g m a h)) s = resolved-same (cfg .retention) g m a (h .records) s
 
 pub true-memory : (truth : Truth) {m : Memory} {l : Option Ledger} → MemoryRelation m l → TrueLedger truth l → TrueMemory truth m
 true-memory truth no-store t = tt
 true-memory truth (both-open cfg both-empty) t = tt
-true-memory truth (both-open cfg (both-installed g m h)) t = λ s v e. t s v (sym (resolved-same (cfg .retention) g m h s) ∙ e)
+true-memory truth (both-open cfg (both-installed g m a h)) t = λ s v e. t s v (sym (resolved-same (cfg .retention) g m a (h .records) s) ∙ e)
 
 pub demand-3 : Demand3
 demand-3 =

@@ -1,22 +1,25 @@
 -- Each call keeps the relation between the store and the ledger, and answers alike.
-use Prim.Native.Nat.{ℕ, suc, _-_, _^_}
-use native.Mathlib.Omega.{arith}
-use mathlib.Core.Path.{_≡_, refl, sym, ap, subst}
-use mathlib.Core.Bool.{Bool, true, _&&_}
+use Prim.Native.Nat.{ℕ, suc}
+use mathlib.Core.Path.{_≡_, refl, sym, ap, _∙_, subst}
+use mathlib.Core.Bool.{Bool, false}
 use mathlib.Core.List.{List, []}
 use mathlib.Core.Option.{Option, some, none}
-use lib.Dec.{eqb, ltb}
+use lib.Dec.{ltb}
 use lib.ListN.{length}
-use borrow.Author.Tests.{eqb-true}
-use Rattle.model.specs.Slots.{Address, Value, Hash, u256-eqb, Slot, BlockHash, Unknown, Known, ReadAnchor, anchor-eqb, Retention}
+use Rattle.model.specs.Slots.{Address, Value, Hash, Slot, ReadAnchor, anchor-eqb, Retention}
 use Rattle.model.specs.Layers.{valued, Layer, find, touch, settle}
-use Rattle.model.specs.Advance.{Lineage, BalSkip, CarryOutcome, Carried, Cold, lineage-number, skip-number, skip-of, classify-hash, classify-link, carries, void-base, no-compaction, CompactionReport, compact-if, compact-base, seal, Write, seed-final-writes}
-use Rattle.model.specs.Reads.{join, take-queued, remove-all-pending, member-slots, settle-members, is-awaiting, count-served, count-waiting}
-use Rattle.model.specs.Store.{Config, Generation, AnchoredCall, look, get, put, read, take, answer, answer-failed, StoreCall, install, advance, at-anchor, Performed, value-report, new-generation, with-top, with-reads, after-writes, carry, cold-advance, carry-or-cold, touched-top, perform-get, perform-read, perform-at, perform}
-use Rattle.model.specs.FlatLedger.{LedgerMap, ledger-insert, LedgerGeneration, ledger-generation, ledger-seed, ledger-resolved, compared-report, compared-outcome, LedgerPerformed, ledger-performed, ledger-advance, ledger-carry-or-cold, ledger-touch, ledger-read, ledger-settle-members, ledger-perform-at, ledger-perform}
-use Rattle.model.proofs.SlotLaws.{split, and-left, and-right, u256-eqb-true}
+use Rattle.model.specs.Advance.{Lineage, BalSkip, CarryOutcome, Carried, Cold, skip-of, classify-link, carries, void-base, no-compaction, CompactionReport, compact-if, compact-base, seal, Write, seed-final-writes}
+use Rattle.model.specs.Reads.{Member, join, take-queued, remove-all-pending, member-slots, has-duplicate, settle-members, is-awaiting, count-served, count-waiting}
+use Rattle.model.specs.Store.{Config, Generation, AnchoredCall, look, get, put, read, take, answer, answer-failed, StoreCall, install, advance, at-anchor, on-store, Performed, value-report, new-generation, with-top, with-reads, after-writes, carry, cold-advance, carry-or-cold, touched-top, perform-get, perform-read, perform-at, perform, resolved, waiting, listed}
+use Rattle.model.specs.Refusals.{answered-slots, answer-names-twice}
+use Rattle.model.specs.FlatLedger.{kept, LedgerMap, AwaitingMap, set, without, LedgerGeneration, ledger-generation, before-writes, write-all, ledger-resolved, one-more-waiter, lookup, all-marked, settle-values, ledger-link, keeps-map, compared-report, compared-outcome, LedgerPerformed, ledger-advance, ledger-carry-or-cold, ledger-look, ledger-get, ledger-read, ledger-perform-at, ledger-perform}
+use Rattle.model.proofs.SlotLaws.{split}
+use Rattle.model.proofs.MapLaws.{Distinct, distinct, keys, distinct-set}
+use Rattle.model.proofs.RuleLaws.{linked, carries-both, link-same, skip-same, carries-same}
+use Rattle.model.proofs.AwaitingLaws.{awaiting-empty, awaiting-join, waiting-same, awaiting-take, queue-same, awaiting-remove, woken-same, named-same, errors-same}
 use Rattle.model.proofs.SlotRelation.{relation-settle, relation-touch}
-use Rattle.model.proofs.Simulation.{Agree, StateRelation, both-empty, both-installed, agree-empty, agree-insert, agree-seed-final-writes, written-slots-empty, agree-settle-members, resolved-same, live-count-same, agree-compact, agree-seal}
+use Rattle.model.proofs.WriteLaws.{report-first, distinct-write-all}
+use Rattle.model.proofs.Simulation.{Agree, GenerationAgree, StateRelation, both-empty, both-installed, agree-empty, agree-insert, agree-seed-final-writes, written-slots-empty, agree-settle-members, distinct-settle, resolved-same, live-count-same, agree-compact, agree-seal}
 
 -- What a call leaves installed, and its report, agree with the ledger's.
 pub record PerformAgrees (R : Retention) (p : Performed) (q : LedgerPerformed) : Type 0 where
@@ -25,74 +28,65 @@ pub record PerformAgrees (R : Retention) (p : Performed) (q : LedgerPerformed) :
 
 -- Advances -------------------------------------------------------------------------------------------
 
+-- A new generation without records.
+agree-fresh : (R : Retention) (a : ReadAnchor) → GenerationAgree R (new-generation a void-base []) [] []
+unfolding keys
+agree-fresh R a = record { records = agree-empty R (a .number); one-entry = tt; awaiting = awaiting-empty }
+
 -- The writes of an advance, over a base that is related to the map.
-agree-after-writes : (cfg : Config) (child : ReadAnchor) (b : List Layer) (m : LedgerMap) (o : CarryOutcome) (c : CompactionReport) (relevance : List Address) (ws : List Write) → Agree (cfg .retention) (child .number) [] b m
+agree-after-writes : (cfg : Config) (child : ReadAnchor) (b : List Layer) (m : LedgerMap) (o : CarryOutcome) (c : CompactionReport) (relevance : List Address) (ws : List Write) → Agree (cfg .retention) (child .number) [] b m → Distinct (keys m)
     → PerformAgrees (cfg .retention) (after-writes cfg child b o c (seed-final-writes (cfg .retention) (child .number) relevance b ws [])) (ledger-advance (cfg .retention) child (compared-outcome o) relevance ws m)
 unfolding ledger-advance
-agree-after-writes cfg child b m o c relevance ws h =
+agree-after-writes cfg child b m o c relevance ws h d =
     let R : Retention = cfg .retention in
-    let z = agree-seed-final-writes R (child .number) relevance b ws [] [] m written-slots-empty h in
+    let z = agree-seed-final-writes R (child .number) relevance b ws [] (before-writes m) written-slots-empty h in
     let g : Generation = new-generation child b (seed-final-writes R (child .number) relevance b ws [] .top) in
-    let m′ : LedgerMap = ledger-seed R (child .number) relevance ws [] m .map in
-    record { relation = both-installed g m′ (z .0); report = cc (z .1, live-count-same R g m′ (z .0)) }
+    let m′ : LedgerMap = write-all R (child .number) relevance ws (before-writes m) .map in
+    let e : Distinct (keys m′) = distinct-write-all R (child .number) relevance ws (before-writes m) d in
+    record {
+      relation = both-installed g m′ [] (record { records = z .0; one-entry = e; awaiting = awaiting-empty });
+      report = cc (sym (report-first m (seed-final-writes R (child .number) relevance b ws [] .applied-writes)) ∙ z .1, live-count-same R g m′ (z .0) e);
+    }
 
 agree-cold-advance : (cfg : Config) (child : ReadAnchor) (l : Lineage) (k : BalSkip) (relevance : List Address) (ws : List Write) → PerformAgrees (cfg .retention) (cold-advance cfg child l k relevance ws) (ledger-advance (cfg .retention) child (Cold l k) relevance ws [])
-unfolding cold-advance
-agree-cold-advance cfg child l k relevance ws = agree-after-writes cfg child void-base [] (Cold l k) no-compaction relevance ws (agree-empty (cfg .retention) (child .number))
+unfolding cold-advance keys
+agree-cold-advance cfg child l k relevance ws = agree-after-writes cfg child void-base [] (Cold l k) no-compaction relevance ws (agree-empty (cfg .retention) (child .number)) tt
 
-agree-carry : (cfg : Config) (g : Generation) (m : LedgerMap) (child : ReadAnchor) (relevance : List Address) (ws : List Write) → Agree (cfg .retention) (g .anchor .number) (g .top) (g .base) m → child .number ≡ suc (g .anchor .number) → PerformAgrees (cfg .retention) (carry cfg g child relevance ws) (ledger-advance (cfg .retention) child (Carried 0) relevance ws m)
+agree-carry : (cfg : Config) (g : Generation) (m : LedgerMap) (child : ReadAnchor) (relevance : List Address) (ws : List Write) → Agree (cfg .retention) (g .anchor .number) (g .top) (g .base) m → Distinct (keys m) → child .number ≡ suc (g .anchor .number) → PerformAgrees (cfg .retention) (carry cfg g child relevance ws) (ledger-advance (cfg .retention) child (Carried 0) relevance ws m)
 unfolding carry compact-base
-agree-carry cfg g m child relevance ws h e =
+agree-carry cfg g m child relevance ws h d e =
     let R : Retention = cfg .retention in
     let n : ℕ = g .anchor .number in
     let due : Bool = ltb (cfg .max-depth) (length (g .base)) in
     let b : List Layer = compact-if due R n (g .base) .base in
     let k : Agree R (child .number) [] (seal (g .top) b) m = subst (λ (i : ℕ). Agree R i [] (seal (g .top) b) m) (sym e) (agree-seal R n (g .top) b m (agree-compact R n (g .top) (g .base) m due h)) in
-    agree-after-writes cfg child (seal (g .top) b) m (Carried _) (compact-if due R n (g .base) .report) relevance ws k
+    agree-after-writes cfg child (seal (g .top) b) m (Carried _) (compact-if due R n (g .base) .report) relevance ws k d
 
--- A linked child: its number is one above the parent's, and the parent has the hash that it names.
-linked-hash : (k : BlockHash) (h : Hash) → lineage-number (classify-hash k h) ≡ 0 → k ≡ Known h
-linked-hash Unknown h e = absurd (omega arith)
-linked-hash (Known k) h e = split (u256-eqb k h) (λ y. ap Known (u256-eqb-true k h y)) (λ y. let z : 4 ≡ 0 = rw y at e in absurd (omega arith))
-
-pub linked : (p child : ReadAnchor) (h : Hash) → lineage-number (classify-link (some p) child h) ≡ 0 → (child .number ≡ suc (p .number)) × (p .hash ≡ Known h)
-linked p child h e =
-    let a : Bool = ltb (p .number) (2 ^ 64 - 1) in
-    let b : Bool = eqb (child .number) (suc (p .number)) in
-    split (a && b)
-    (λ y. (eqb-true (child .number) (suc (p .number)) (and-right a b y), linked-hash (p .hash) h (rw y at e)))
-    (λ y. let z : 2 ≡ 0 = rw y at e in absurd (omega arith))
-
--- An advance that carries is linked, and its list was read.
-pub carries-both : (l : Lineage) (k : BalSkip) → carries l k ≡ true → (lineage-number l ≡ 0) × (skip-number k ≡ 0)
-carries-both l k e =
-    let a : Bool = eqb (lineage-number l) 0 in
-    let b : Bool = eqb (skip-number k) 0 in
-    (eqb-true (lineage-number l) 0 (and-left a b e), eqb-true (skip-number k) 0 (and-right a b e))
-
-agree-carry-or-cold : (cfg : Config) (g : Generation) (m : LedgerMap) (child : ReadAnchor) (h : Hash) (k : BalSkip) (relevance : List Address) (ws : List Write) → Agree (cfg .retention) (g .anchor .number) (g .top) (g .base) m
-    → PerformAgrees (cfg .retention) (carry-or-cold cfg g child (classify-link (some (g .anchor)) child h) k relevance ws) (ledger-carry-or-cold (cfg .retention) m child (classify-link (some (g .anchor)) child h) k relevance ws)
-agree-carry-or-cold cfg g m child h k relevance ws a =
+agree-carry-or-cold : (cfg : Config) (g : Generation) (m : LedgerMap) (child : ReadAnchor) (h : Hash) (k : ℕ) (relevance : List Address) (ws : List Write) → Agree (cfg .retention) (g .anchor .number) (g .top) (g .base) m → Distinct (keys m)
+    → PerformAgrees (cfg .retention) (carry-or-cold cfg g child (classify-link (some (g .anchor)) child h) (skip-of k) relevance ws) (ledger-carry-or-cold (cfg .retention) m child (ledger-link (some (g .anchor)) child h) k relevance ws)
+agree-carry-or-cold cfg g m child h k relevance ws a d =
     let l : Lineage = classify-link (some (g .anchor)) child h in
-    split (carries l k)
-    (λ e. rw e (agree-carry cfg g m child relevance ws a (linked (g .anchor) child h (carries-both l k e .0) .0)))
-    (λ e. rw e (agree-cold-advance cfg child l k relevance ws))
+    let same : carries l (skip-of k) ≡ keeps-map l k = ap (carries l) (skip-same k) ∙ carries-same l k in
+    rw (← link-same (some (g .anchor)) child h, ← skip-same k, ← same)
+    (split (carries l (skip-of k))
+    (λ e. rw e (agree-carry cfg g m child relevance ws a d (linked (g .anchor) child h (carries-both l (skip-of k) e .0) .0)))
+    (λ e. rw e (agree-cold-advance cfg child l (skip-of k) relevance ws)))
 
 -- The calls ------------------------------------------------------------------------------------------
 
--- All of a look's report is compared.
-agree-value-report : (o : Option Value) → compared-report (value-report o) ≡ value-report o
+-- A look answers the same.
+agree-value-report : (o : Option Value) → compared-report (value-report o) ≡ ledger-look o
 agree-value-report none = refl
 agree-value-report (some v) = refl
 
 -- With nothing installed, and then with a generation.
 agree-none : (cfg : Config) (c : StoreCall) → PerformAgrees (cfg .retention) (perform cfg none c) (ledger-perform (cfg .retention) none c)
 unfolding perform ledger-perform
-agree-none cfg (install a) = record { relation = both-installed (new-generation a void-base []) [] (agree-empty (cfg .retention) (a .number)); report = refl }
-agree-none cfg (advance child h k relevance ws) = agree-cold-advance cfg child (classify-link none child h) (skip-of k) relevance ws
+agree-none cfg (install a) = record { relation = both-installed (new-generation a void-base []) [] [] (agree-fresh (cfg .retention) a); report = refl }
+agree-none cfg (advance child h k relevance ws) = rw (← skip-same k) (agree-cold-advance cfg child (classify-link none child h) (skip-of k) relevance ws)
 agree-none cfg (at-anchor a c) = record { relation = both-empty; report = refl }
 
-module _ (cfg : Config) (g : Generation) (m : LedgerMap) (h : Agree (cfg .retention) (g .anchor .number) (g .top) (g .base) m) where
+module _ (cfg : Config) (g : Generation) (m : LedgerMap) (a : AwaitingMap) (h : GenerationAgree (cfg .retention) g m a) where
   abbrev R : Retention
   R = cfg .retention
 
@@ -100,53 +94,91 @@ module _ (cfg : Config) (g : Generation) (m : LedgerMap) (h : Agree (cfg .retent
   n = g .anchor .number
 
   abbrev L : LedgerGeneration
-  L = ledger-generation (g .anchor) m (g .pending)
+  L = ledger-generation (g .anchor) m a
+
+  same-look : (s : Slot) → resolved R g s ≡ ledger-resolved R L s
+  same-look s = resolved-same R g m a (h .records) s
 
   -- A use of a slot that is served.
-  agree-touch : (s : Slot) (v : Value) → ledger-resolved R L s ≡ some v → Agree R n (touched-top g s) (g .base) (ledger-insert s n v m)
+  agree-touch : (s : Slot) (v : Value) → ledger-resolved R L s ≡ some v → Agree R n (touched-top g s) (g .base) (set s (kept n v) m)
   agree-touch s v e =
-      agree-insert R n (g .top) (g .base) m s (touch n (find s (g .top))) n v h (relation-touch v (h s) e)
+      agree-insert R n (g .top) (g .base) m s (touch n (find s (g .top))) n v (h .records) (relation-touch v (h .records s) e)
 
-  agree-get : (s : Slot) (o : Option Value) → ledger-resolved R L s ≡ o → PerformAgrees R (perform-get g s o) (ledger-performed (ledger-generation (g .anchor) (ledger-touch L s o) (g .pending)) (value-report o))
-  agree-get s none e = record { relation = both-installed g m h; report = refl }
-  agree-get s (some v) e = record { relation = both-installed (with-top g (touched-top g s)) (ledger-insert s n v m) (agree-touch s v e); report = refl }
+  one-entry-set : (s : Slot) (v : Value) → Distinct (keys (set s (kept n v) m))
+  one-entry-set s v = distinct-set s (kept n v) m (h .one-entry)
+
+  agree-get : (s : Slot) (o : Option Value) → ledger-resolved R L s ≡ o → PerformAgrees R (perform-get g s o) (ledger-get L s o)
+  agree-get s none e = record { relation = both-installed g m a h; report = refl }
+  agree-get s (some v) e =
+      record {
+        relation = both-installed (with-top g (touched-top g s)) (set s (kept n v) m) a (record { records = agree-touch s v e; one-entry = one-entry-set s v; awaiting = h .awaiting });
+        report = refl;
+      }
 
   agree-read : (s : Slot) (o : Option Value) → ledger-resolved R L s ≡ o → PerformAgrees R (perform-read g s o) (ledger-read L s o)
-  agree-read s none e = record { relation = both-installed (with-reads g (g .top) (join s (g .pending)) (count-waiting (is-awaiting s (g .pending)) (g .totals))) m h; report = refl }
-  agree-read s (some v) e = record { relation = both-installed (with-reads g (touched-top g s) (g .pending) (count-served (g .totals))) (ledger-insert s n v m) (agree-touch s v e); report = refl }
-
-  agree-at : (c : AnchoredCall) → PerformAgrees R (perform-at cfg g c) (ledger-perform-at R L c)
-  agree-at (look s) = record { relation = both-installed g m h; report = rw (resolved-same R g m h s) (agree-value-report (ledger-resolved R L s)) }
-  agree-at (get s) = rw (resolved-same R g m h s) (agree-get s (ledger-resolved R L s) refl)
-  agree-at (put s v) =
+  agree-read s none e =
       record {
-        relation = both-installed (with-top g (settle n s v (g .top))) (ledger-insert s n v m)
-            (agree-insert R n (g .top) (g .base) m s (valued n v) n v h (relation-settle v (h s)));
+        relation = both-installed (with-reads g (g .top) (join s (g .pending)) (count-waiting (is-awaiting s (g .pending)) (g .totals))) m (set s (one-more-waiter (lookup s a)) a)
+            (record { records = h .records; one-entry = h .one-entry; awaiting = awaiting-join (h .awaiting) s });
+        report = ap waiting (waiting-same (h .awaiting) s);
+      }
+  agree-read s (some v) e =
+      record {
+        relation = both-installed (with-reads g (touched-top g s) (g .pending) (count-served (g .totals))) (set s (kept n v) m) a
+            (record { records = agree-touch s v e; one-entry = one-entry-set s v; awaiting = h .awaiting });
         report = refl;
       }
-  agree-at (read s) = rw (resolved-same R g m h s) (agree-read s (ledger-resolved R L s) refl)
-  agree-at take = record { relation = both-installed (with-reads g (g .top) (take-queued (g .pending)) (g .totals)) m h; report = refl }
-  agree-at (answer ms) =
+
+  -- An answer that names no slot twice.
+  agree-answer : (ms : List Member) → Distinct (member-slots ms) → PerformAgrees R (perform-at cfg g (answer ms)) (ledger-perform-at R L (answer ms))
+  agree-answer ms d =
+      rw (← named-same ms)
+      (record {
+        relation = both-installed (with-reads g (settle-members n ms (g .top)) (remove-all-pending (member-slots ms) (g .pending)) _) (settle-values n ms m) (without (member-slots ms) a)
+            (record { records = agree-settle-members R n (g .base) ms (g .top) m (h .records); one-entry = distinct-settle n ms m (h .one-entry); awaiting = awaiting-remove (h .awaiting) (member-slots ms) });
+        report = cc (errors-same ms, woken-same (h .awaiting) (member-slots ms) d);
+      })
+
+  agree-failed : (ss : List Slot) → Distinct ss → PerformAgrees R (perform-at cfg g (answer-failed ss)) (ledger-perform-at R L (answer-failed ss))
+  agree-failed ss d =
       record {
-        relation = both-installed (with-reads g (settle-members n ms (g .top)) (remove-all-pending (member-slots ms) (g .pending)) _) (ledger-settle-members n ms m)
-            (agree-settle-members R n (g .base) ms (g .top) m h);
+        relation = both-installed (with-reads g (g .top) (remove-all-pending ss (g .pending)) _) m (without ss a)
+            (record { records = h .records; one-entry = h .one-entry; awaiting = awaiting-remove (h .awaiting) ss });
+        report = cc (woken-same (h .awaiting) ss d);
+      }
+
+  agree-at : (c : AnchoredCall) → has-duplicate (answered-slots c) ≡ false → PerformAgrees R (perform-at cfg g c) (ledger-perform-at R L c)
+  agree-at (look s) d = record { relation = both-installed g m a h; report = rw (same-look s) (agree-value-report (ledger-resolved R L s)) }
+  agree-at (get s) d = rw (same-look s) (agree-get s (ledger-resolved R L s) refl)
+  agree-at (put s v) d =
+      record {
+        relation = both-installed (with-top g (settle n s v (g .top))) (set s (kept n v) m) a
+            (record { records = agree-insert R n (g .top) (g .base) m s (valued n v) n v (h .records) (relation-settle v (h .records s)); one-entry = one-entry-set s v; awaiting = h .awaiting });
         report = refl;
       }
-  agree-at (answer-failed ss) = record { relation = both-installed (with-reads g (g .top) (remove-all-pending ss (g .pending)) _) m h; report = refl }
+  agree-at (read s) d = rw (same-look s) (agree-read s (ledger-resolved R L s) refl)
+  agree-at take d =
+      record {
+        relation = both-installed (with-reads g (g .top) (take-queued (g .pending)) (g .totals)) m (all-marked a)
+            (record { records = h .records; one-entry = h .one-entry; awaiting = awaiting-take (h .awaiting) });
+        report = ap listed (queue-same (h .awaiting));
+      }
+  agree-at (answer ms) d = agree-answer ms (distinct (member-slots ms) d)
+  agree-at (answer-failed ss) d = agree-failed ss (distinct ss d)
 
-  agree-some : (c : StoreCall) → PerformAgrees R (perform cfg (some g) c) (ledger-perform R (some L) c)
-  unfolding perform ledger-perform
-  agree-some (install a) =
-      split (anchor-eqb (g .anchor) a)
-      (λ e. rw e (record { relation = both-installed g m h; report = refl }))
-      (λ e. rw e (record { relation = both-installed (new-generation a void-base []) [] (agree-empty R (a .number)); report = refl }))
-  agree-some (advance child ph k relevance ws) =
+  agree-some : (c : StoreCall) → answer-names-twice (on-store c) ≡ false → PerformAgrees R (perform cfg (some g) c) (ledger-perform R (some L) c)
+  unfolding perform ledger-perform answer-names-twice
+  agree-some (install b) d =
+      split (anchor-eqb (g .anchor) b)
+      (λ e. rw e (record { relation = both-installed g m a h; report = refl }))
+      (λ e. rw e (record { relation = both-installed (new-generation b void-base []) [] [] (agree-fresh R b); report = refl }))
+  agree-some (advance child ph k relevance ws) d =
       split (anchor-eqb (g .anchor) child)
-      (λ e. rw e (record { relation = both-installed g m h; report = cc (live-count-same R g m h) }))
-      (λ e. rw e (agree-carry-or-cold cfg g m child ph (skip-of k) relevance ws h))
-  agree-some (at-anchor a c) = agree-at c
+      (λ e. rw e (record { relation = both-installed g m a h; report = cc (live-count-same R g m (h .records) (h .one-entry)) }))
+      (λ e. rw e (agree-carry-or-cold cfg g m child ph k relevance ws (h .records) (h .one-entry)))
+  agree-some (at-anchor b c) d = agree-at c d
 
--- A call, whatever is installed.
-pub perform-agrees : (cfg : Config) {st : Option Generation} {ls : Option LedgerGeneration} → StateRelation (cfg .retention) st ls → (c : StoreCall) → PerformAgrees (cfg .retention) (perform cfg st c) (ledger-perform (cfg .retention) ls c)
-perform-agrees cfg both-empty c = agree-none cfg c
-perform-agrees cfg (both-installed g m h) c = agree-some cfg g m h c
+-- A call that names no slot twice, whatever is installed.
+pub perform-agrees : (cfg : Config) {st : Option Generation} {ls : Option LedgerGeneration} → StateRelation (cfg .retention) st ls → (c : StoreCall) → answer-names-twice (on-store c) ≡ false → PerformAgrees (cfg .retention) (perform cfg st c) (ledger-perform (cfg .retention) ls c)
+perform-agrees cfg both-empty c d = agree-none cfg c
+perform-agrees cfg (both-installed g m a h) c d = agree-some cfg g m a h c d

@@ -39,7 +39,8 @@ abbrev pub classify-hash : BlockHash → Hash → Lineage
 classify-hash Unknown parent-hash = ParentHashUnknown
 classify-hash (Known h) parent-hash = cond (u256-eqb h parent-hash) Linked ParentHashMismatch
 
--- How a child stands to the installed anchor (`classify_link`), the first that applies: no parent; the child's number is not the parent's plus one (a parent at 2^64 − 1 always); the parent has no hash; hashes differ; linked.
+-- How a child stands to the installed anchor (`classify_link`), the first that applies: no parent; the child's number is not the parent's plus one
+-- (a parent at 2^64 − 1 always); the parent has no hash; hashes differ; linked.
 abbrev pub classify-link : Option ReadAnchor → ReadAnchor → Hash → Lineage
 classify-link none child parent-hash = NoParent
 classify-link (some p) child parent-hash =

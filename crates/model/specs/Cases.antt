@@ -53,7 +53,8 @@ advance-to n p relevance ws = on-store (advance (block n) (small p) 0 relevance 
 -- An advance's answer: outcome; applied slots, overwritten, skipped; held, live; merged, left, dropped.
 abbrev pub delta : CarryOutcome → List Slot → ℕ → ℕ → ℕ → ℕ → CompactionReport → Answer
 delta o applied overwritten skipped held live c =
-    ok (advanced (record { outcome = o; writes = record { applied = applied; overwritten = overwritten; skipped = skipped }; held = held; live = live; compaction = c }))
+    let w : AppliedWrites = record { applied = applied; overwritten = overwritten; skipped = skipped } in
+    ok (advanced (record { outcome = o; writes = w; held = held; live = live; compaction = c }))
 
 -- The whole case.
 unfoldable pub whole-case : List Call

@@ -1,9 +1,9 @@
 -- Entries of lists in bytes: addresses, 32-byte numbers, slots, writes, members. Call lists and lent lists have the same.
 use Prim.Native.Nat.{ℕ, zero, suc, _+_, _*_, _/_}
-use mathlib.Core.Bool.{Bool, true, false, not, cond}
+use mathlib.Core.Bool.{Bool, true, _&&_, cond}
 use mathlib.Core.List.{List, [], _∷_, _++_, map}
 use mathlib.Core.Option.{Option, some, none}
-use lib.Dec.{eqb}
+use lib.Dec.{eqb, leb}
 use lib.ListN.{length, take, drop, getD}
 use Rattle.model.specs.Numbers.{be, num}
 use Rattle.model.specs.Slots.{Address, U256, Slot}
@@ -27,7 +27,8 @@ slot-of b = record { address = address-of b; index = u256-at 20 b }
 abbrev pub write-of : List ℕ → Write
 write-of b = record { slot = slot-of b; value = u256-at 52 b }
 
--- A member of a lent answer has 85 bytes: a slot, 0 for a refusal or another byte, and the value's 32 bytes, which a refusal leaves unread.
+-- A member of a lent answer has 85 bytes: a slot, 0 for a refusal or 1 for a value, and the value's 32 bytes, which a refusal leaves unread.
+-- Any other flag byte is refused before the members are read (`flags-known`).
 abbrev pub member-of : List ℕ → Member
 member-of b = record { slot = slot-of b; outcome = cond (eqb (getD b 52 0) 0) none (some (u256-at 53 b)) }
 
@@ -48,9 +49,23 @@ writes-of b = map write-of (chunks 84 (length b / 84) b)
 unfoldable pub members-of : List ℕ → List Member
 members-of b = map member-of (chunks 85 (length b / 85) b)
 
+-- Whether every member of a lent answer has a known flag byte, 0 or 1.
+unfoldable pub known-flags : List (List ℕ) → Bool
+known-flags [] = true
+known-flags (m ∷ ms) = leb (getD m 52 0) 1 && known-flags ms
+
+unfoldable pub flags-known : List ℕ → Bool
+flags-known b = known-flags (chunks 85 (length b / 85) b)
+
+-- The first n entries of an output, as slots: always n of them.
+abbrev pub first-slots : ℕ → List ℕ → List Slot
+first-slots n out = map slot-of (chunks 52 n out)
+
 -- A slot's 52 bytes, and an output with slots at its beginning; what follows is as it was. An output holds as many entries as it has whole 52 bytes.
 unfoldable pub slot-bytes : Slot → List ℕ
-slot-bytes s = be 4 (s .address .w0) ++ be 8 (s .address .w1) ++ be 8 (s .address .w2) ++ be 8 (s .index .w0) ++ be 8 (s .index .w1) ++ be 8 (s .index .w2) ++ be 8 (s .index .w3)
+slot-bytes s =
+    be 4 (s .address .w0) ++ be 8 (s .address .w1) ++ be 8 (s .address .w2)
+    ++ be 8 (s .index .w0) ++ be 8 (s .index .w1) ++ be 8 (s .index .w2) ++ be 8 (s .index .w3)
 
 unfoldable pub slots-bytes : List Slot → List ℕ
 slots-bytes [] = []

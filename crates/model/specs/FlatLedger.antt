@@ -1,111 +1,205 @@
 -- The flat ledger: one map from slots to values and last uses, with no layers and no folds.
-use Prim.Native.Nat.{ℕ, suc}
-use mathlib.Core.Bool.{Bool, true, false, _&&_, cond}
-use mathlib.Core.List.{List, [], _∷_}
+-- It shares with the store the types, and equality and order of slots, addresses, hashes and anchors. Its rules are its own.
+use Prim.Native.Nat.{ℕ, zero, suc, _+_, _^_}
+use mathlib.Core.Bool.{Bool, true, false, not, _&&_, _||_, cond}
+use mathlib.Core.List.{List, [], _∷_, _++_, map}
 use mathlib.Core.Option.{Option, some, none}
+use lib.Dec.{eqb, leb, ltb}
 use lib.ListN.{length}
-use Rattle.model.specs.Slots.{Address, Value, LastUse, Slot, slot-eqb, mem, ReadAnchor, anchor-eqb, Retention, serves}
-use Rattle.model.specs.Layers.{is-some, count-distinct}
-use Rattle.model.specs.Advance.{Lineage, BalSkip, skip-of, CarryOutcome, AlreadyCurrent, Carried, Cold, classify-link, carries, Write, WriteKind, overwrite, new, skip, write-kind, relevant, AppliedWrites, no-writes, count-write, no-compaction, DeltaReport}
-use Rattle.model.specs.Reads.{Pending, Member, waiters-of, join, queued, take-queued, remove-all-pending, woken, member-slots, refused-slots}
-use Rattle.model.specs.Store.{AnchoredCall, look, get, put, read, take, answer, answer-failed, StoreCall, install, advance, at-anchor, Call, open-store, on-store, Report, opened, anchor-same, anchor-fresh, advanced, value, no-value, stored, waiting, listed, answered, value-report}
+use Rattle.model.specs.Slots.{Address, address-eqb, Value, LastUse, Hash, Slot, slot-eqb, slot-ltb, mem, Unknown, Known, hash-eqb, ReadAnchor, anchor-eqb, Retention, Unbounded, IdleBlocks}
+use Rattle.model.specs.Advance.{Lineage, Linked, NoParent, NotConsecutive, ParentHashUnknown, ParentHashMismatch, BalSkip, Decoded, NoAnchorHash, Rpc, Decode, CarryOutcome, AlreadyCurrent, Carried, Cold, Write, AppliedWrites, no-compaction}
+use Rattle.model.specs.Reads.{Member}
+use Rattle.model.specs.Store.{AnchoredCall, look, get, put, read, take, answer, answer-failed, StoreCall, install, advance, at-anchor, Call, open-store, on-store, Report, opened, anchor-same, anchor-fresh, advanced, value, no-value, stored, waiting, listed, answered}
 use Rattle.model.specs.Refusals.{Answer, refuse, ok}
 
--- An entry of the map: a slot, its last use and its value.
-pub record LedgerEntry : Type 0 where
+-- Maps from slots -----------------------------------------------------------------------------------
+
+-- An entry of a map, and a map: one entry a slot, in no order.
+pub record Entry (A : Type 0) : Type 0 where
   pub slot : Slot
+  pub content : A
+
+abbrev pub SlotMap : Type 0 → Type 0
+SlotMap A = List (Entry A)
+
+-- What a map has of a slot, or none.
+unfoldable pub lookup : {A : Type 0} → Slot → SlotMap A → Option A
+lookup s [] = none
+lookup s (e ∷ m) = cond (slot-eqb (e .slot) s) (some (e .content)) (lookup s m)
+
+-- A map without some slots, and with a slot set.
+unfoldable pub without : {A : Type 0} → List Slot → SlotMap A → SlotMap A
+without ss [] = []
+without ss (e ∷ m) = cond (mem (e .slot) ss) (without ss m) (e ∷ without ss m)
+
+abbrev pub set : {A : Type 0} → Slot → A → SlotMap A → SlotMap A
+set s x m = record { slot = s; content = x } ∷ without (s ∷ []) m
+
+-- The ledger ----------------------------------------------------------------------------------------
+
+-- What the one map has of a slot: its last use and its value.
+pub record Kept : Type 0 where
   pub last-use : LastUse
   pub value : Value
 
--- The one map. Of several entries of a slot the first counts.
+abbrev pub kept : LastUse → Value → Kept
+kept u v = record { last-use = u; value = v }
+
 abbrev pub LedgerMap : Type 0
-LedgerMap = List LedgerEntry
+LedgerMap = SlotMap Kept
 
--- What the map has of a slot: nothing, or last use and value.
-pub data Lookup : Type 0 where
-  unknown : Lookup
-  known : LastUse → Value → Lookup
+-- An awaiting slot: its waiters, and whether a take has listed it.
+pub record Awaiting : Type 0 where
+  pub waiters : ℕ
+  pub taken : Bool
 
-unfoldable pub ledger-lookup : Slot → LedgerMap → Lookup
-ledger-lookup s [] = unknown
-ledger-lookup s (e ∷ m) = cond (slot-eqb (e .slot) s) (known (e .last-use) (e .value)) (ledger-lookup s m)
+abbrev pub AwaitingMap : Type 0
+AwaitingMap = SlotMap Awaiting
 
--- The map with a slot's last use and value set.
-abbrev pub ledger-insert : Slot → LastUse → Value → LedgerMap → LedgerMap
-ledger-insert s u v m = record { slot = s; last-use = u; value = v } ∷ m
-
--- The slots that the map has entries of.
-unfoldable pub ledger-keys : LedgerMap → List Slot
-ledger-keys [] = []
-ledger-keys (e ∷ m) = e .slot ∷ ledger-keys m
-
--- What stands under the one anchor: the map, and the awaiting slots with their waiters, taken or not.
+-- What stands under the one anchor: the map, and the awaiting slots.
 pub record LedgerGeneration : Type 0 where
   pub anchor : ReadAnchor
   pub map : LedgerMap
-  pub pending : List Pending
+  pub awaiting : AwaitingMap
 
-abbrev pub ledger-generation : ReadAnchor → LedgerMap → List Pending → LedgerGeneration
-ledger-generation a m q = record { anchor = a; map = m; pending = q }
+abbrev pub ledger-generation : ReadAnchor → LedgerMap → AwaitingMap → LedgerGeneration
+ledger-generation a m q = record { anchor = a; map = m; awaiting = q }
 
 -- The ledger of an open: its retention, and its anchor with the map if there is one.
 pub record Ledger : Type 0 where
   pub retention : Retention
   pub installed : Option LedgerGeneration
 
--- The value that an entry is served with at `now`, and its last use.
-abbrev pub lookup-resolved : Retention → ℕ → Lookup → Option Value
-lookup-resolved R now unknown = none
-lookup-resolved R now (known u v) = cond (serves R u now) (some v) none
+-- Served --------------------------------------------------------------------------------------------
 
-abbrev pub lookup-last-use : Lookup → Option LastUse
-lookup-last-use unknown = none
-lookup-last-use (known u v) = some u
+-- Whether a last use serves at `now`: unbounded always; idle n as long as now is at most n above it.
+abbrev pub in-date : Retention → LastUse → ℕ → Bool
+in-date Unbounded u now = true
+in-date (IdleBlocks n) u now = leb now (u + n)
 
--- The value that a slot is served with, or none.
+-- The value that a slot is served with, of what the map has of it.
+abbrev pub value-in-date : Retention → ℕ → Option Kept → Option Value
+value-in-date R now none = none
+value-in-date R now (some k) = cond (in-date R (k .last-use) now) (some (k .value)) none
+
 abbrev pub ledger-resolved : Retention → LedgerGeneration → Slot → Option Value
-ledger-resolved R g s = lookup-resolved R (g .anchor .number) (ledger-lookup s (g .map))
+ledger-resolved R g s = value-in-date R (g .anchor .number) (lookup s (g .map))
 
--- Live: the number of distinct slots served.
-unfoldable pub ledger-live-count : Retention → LedgerGeneration → ℕ
-ledger-live-count R g = count-distinct (λ s. is-some (ledger-resolved R g s)) (ledger-keys (g .map))
+-- Live: the number of entries that are in date.
+unfoldable pub entries-in-date : Retention → ℕ → LedgerMap → ℕ
+entries-in-date R now [] = 0
+entries-in-date R now (e ∷ m) = cond (in-date R (e .content .last-use) now) (suc (entries-in-date R now m)) (entries-in-date R now m)
+
+-- The link ------------------------------------------------------------------------------------------
+
+-- How a child stands to the anchor, the first that applies. A number has 64 bits, so that nothing comes after 2^64 − 1.
+abbrev pub ledger-link : Option ReadAnchor → ReadAnchor → Hash → Lineage
+ledger-link none child parent-hash = NoParent
+ledger-link (some p) child parent-hash =
+    cond (not (eqb (child .number) (p .number + 1) && ltb (child .number) (2 ^ 64))) NotConsecutive
+    (cond (hash-eqb (p .hash) Unknown) ParentHashUnknown
+    (cond (not (hash-eqb (p .hash) (Known parent-hash))) ParentHashMismatch
+    Linked))
+
+-- The skip of a number, and whether an advance keeps the map: linked and unskipped.
+abbrev pub ledger-skip : ℕ → BalSkip
+ledger-skip zero = Decoded
+ledger-skip (suc zero) = NoAnchorHash
+ledger-skip (suc (suc zero)) = Rpc
+ledger-skip (suc (suc (suc k))) = Decode
+
+abbrev pub keeps-map : Lineage → ℕ → Bool
+keeps-map Linked k = eqb k 0
+keeps-map NoParent k = false
+keeps-map NotConsecutive k = false
+keeps-map ParentHashUnknown k = false
+keeps-map ParentHashMismatch k = false
 
 -- The writes ----------------------------------------------------------------------------------------
 
--- The map after a write.
-abbrev pub ledger-apply-write : ℕ → WriteKind → Slot → Value → LedgerMap → LedgerMap
-ledger-apply-write now (overwrite u) s v m = ledger-insert s u v m
-ledger-apply-write now new s v m = ledger-insert s now v m
-ledger-apply-write now skip s v m = m
+-- How often a list has an address. A write is relevant if the call's list has its address.
+unfoldable pub times-listed : Address → List Address → ℕ
+times-listed a [] = 0
+times-listed a (b ∷ bs) = cond (address-eqb b a) (times-listed a bs + 1) (times-listed a bs)
 
--- The overwrite that keeps a slot's last use. A slot written earlier in the list has one.
-abbrev pub overwrite-of : Option LastUse → WriteKind
-overwrite-of none = skip
-overwrite-of (some u) = overwrite u
+abbrev pub ledger-relevant : List Address → Slot → Bool
+ledger-relevant relevance s = not (eqb (times-listed (s .address) relevance) 0)
 
--- Served, or written earlier in this list: overwritten. Else new if relevant, else skipped.
-abbrev pub ledger-write-kind : Retention → ℕ → Bool → Bool → Option LastUse → WriteKind
-ledger-write-kind R now is-relevant written o = cond written (overwrite-of o) (write-kind R now is-relevant o)
-
--- The slots written so far, after a write.
-abbrev pub mark-written : WriteKind → Slot → List Slot → List Slot
-mark-written (overwrite u) s d = s ∷ d
-mark-written new s d = s ∷ d
-mark-written skip s d = d
-
--- What the writes leave: the map and their report.
-pub record LedgerSeeded : Type 0 where
+-- The map while the writes of an advance are made; so far, the slots of the applied writes, and the numbers of overwritten and skipped ones.
+pub record Writing : Type 0 where
   pub map : LedgerMap
-  pub applied-writes : AppliedWrites
+  pub applied : List Slot
+  pub overwritten : ℕ
+  pub skipped : ℕ
 
--- The writes of an advance in order; `d` has the slots written earlier in the list.
-unfoldable pub ledger-seed : Retention → ℕ → List Address → List Write → List Slot → LedgerMap → LedgerSeeded
-ledger-seed R now relevance [] d m = record { map = m; applied-writes = no-writes }
-ledger-seed R now relevance (w ∷ ws) d m =
-    let s : Slot = w .slot in
-    let k : WriteKind = ledger-write-kind R now (relevant relevance (s .address)) (mem s d) (lookup-last-use (ledger-lookup s m)) in
-    let r : LedgerSeeded = ledger-seed R now relevance ws (mark-written k s d) (ledger-apply-write now k s (w .value) m) in
-    record { map = r .map; applied-writes = count-write k s (r .applied-writes) }
+abbrev pub before-writes : LedgerMap → Writing
+before-writes m = record { map = m; applied = []; overwritten = 0; skipped = 0 }
+
+-- After one more write: applied with a last use, and counted as overwritten or not (1 or 0); or skipped.
+abbrev pub applied-by : Write → LastUse → ℕ → Writing → Writing
+applied-by w u n z =
+    record { map = set (w .slot) (kept u (w .value)) (z .map); applied = z .applied ++ (w .slot ∷ []); overwritten = z .overwritten + n; skipped = z .skipped }
+
+abbrev pub skipped-by : Writing → Writing
+skipped-by z = record { map = z .map; applied = z .applied; overwritten = z .overwritten; skipped = z .skipped + 1 }
+
+-- A write to a slot that is not served: the last use is the child's number if it is relevant, else it is skipped.
+abbrev pub write-unserved : ℕ → List Address → Write → Writing → Writing
+write-unserved now relevance w z = cond (ledger-relevant relevance (w .slot)) (applied-by w now 0 z) (skipped-by z)
+
+-- A write, of what the map has of its slot: served, or written earlier in this list, it is overwritten and the last use kept.
+abbrev pub write-one : Retention → ℕ → List Address → Write → Option Kept → Writing → Writing
+write-one R now relevance w none z = write-unserved now relevance w z
+write-one R now relevance w (some k) z =
+    cond (in-date R (k .last-use) now || mem (w .slot) (z .applied)) (applied-by w (k .last-use) 1 z) (write-unserved now relevance w z)
+
+-- The writes in order.
+unfoldable pub write-all : Retention → ℕ → List Address → List Write → Writing → Writing
+write-all R now relevance [] z = z
+write-all R now relevance (w ∷ ws) z = write-all R now relevance ws (write-one R now relevance w (lookup (w .slot) (z .map)) z)
+
+-- Awaiting slots --------------------------------------------------------------------------------------
+
+-- A slot's waiters, and whether it is taken, after an unserved read: one waiter more.
+abbrev pub one-more-waiter : Option Awaiting → Awaiting
+one-more-waiter none = record { waiters = 1; taken = false }
+one-more-waiter (some w) = record { waiters = w .waiters + 1; taken = w .taken }
+
+-- A slot put into its place in a rising list, and the slots that are not taken, rising.
+unfoldable pub place : Slot → List Slot → List Slot
+place s [] = s ∷ []
+place s (t ∷ l) = cond (slot-ltb s t) (s ∷ t ∷ l) (t ∷ place s l)
+
+unfoldable pub not-taken : AwaitingMap → List Slot
+not-taken [] = []
+not-taken (e ∷ q) = cond (e .content .taken) (not-taken q) (place (e .slot) (not-taken q))
+
+-- The awaiting slots after a take.
+abbrev pub all-marked : AwaitingMap → AwaitingMap
+all-marked q = map (λ e. record { slot = e .slot; content = record { waiters = e .content .waiters; taken = true } }) q
+
+-- The waiters of the awaiting slots that are on a list.
+unfoldable pub waiters-among : List Slot → AwaitingMap → ℕ
+waiters-among ss [] = 0
+waiters-among ss (e ∷ q) = cond (mem (e .slot) ss) (e .content .waiters) 0 + waiters-among ss q
+
+-- The number of members without a value.
+abbrev pub count-error : Option Value → ℕ
+count-error none = 1
+count-error (some v) = 0
+
+unfoldable pub member-errors : List Member → ℕ
+member-errors [] = 0
+member-errors (x ∷ xs) = count-error (x .outcome) + member-errors xs
+
+-- The map after the members of an answer: a value sets value and use.
+abbrev pub settle-value : ℕ → Slot → Option Value → LedgerMap → LedgerMap
+settle-value now s none m = m
+settle-value now s (some v) m = set s (kept now v) m
+
+unfoldable pub settle-values : ℕ → List Member → LedgerMap → LedgerMap
+settle-values now [] m = m
+settle-values now (x ∷ xs) m = settle-values now xs (settle-value now (x .slot) (x .outcome) m)
 
 -- What is compared ----------------------------------------------------------------------------------
 
@@ -120,7 +214,8 @@ abbrev pub compared-report : Report → Report
 compared-report opened = opened
 compared-report anchor-same = anchor-same
 compared-report anchor-fresh = anchor-fresh
-compared-report (advanced d) = advanced (record { outcome = compared-outcome (d .outcome); writes = d .writes; held = 0; live = d .live; compaction = no-compaction })
+compared-report (advanced d) =
+    advanced (record { outcome = compared-outcome (d .outcome); writes = d .writes; held = 0; live = d .live; compaction = no-compaction })
 compared-report (value v) = value v
 compared-report no-value = no-value
 compared-report stored = stored
@@ -144,69 +239,74 @@ abbrev pub ledger-performed : LedgerGeneration → Report → LedgerPerformed
 ledger-performed g r = record { installed = some g; report = r }
 
 -- An advance's report, so far as it is compared.
-abbrev pub ledger-report : Retention → LedgerGeneration → CarryOutcome → AppliedWrites → Report
-ledger-report R g o w = advanced (record { outcome = o; writes = w; held = 0; live = ledger-live-count R g; compaction = no-compaction })
+abbrev pub ledger-report : Retention → ReadAnchor → CarryOutcome → Writing → Report
+ledger-report R a o z =
+    let w : AppliedWrites = record { applied = z .applied; overwritten = z .overwritten; skipped = z .skipped } in
+    advanced (record { outcome = o; writes = w; held = 0; live = entries-in-date R (a .number) (z .map); compaction = no-compaction })
 
 -- An advance to another anchor: the writes over what is left of the map. The awaiting slots are dropped.
 unfoldable pub ledger-advance : Retention → ReadAnchor → CarryOutcome → List Address → List Write → LedgerMap → LedgerPerformed
 ledger-advance R child o relevance ws m =
-    let z : LedgerSeeded = ledger-seed R (child .number) relevance ws [] m in
-    let g : LedgerGeneration = ledger-generation child (z .map) [] in
-    ledger-performed g (ledger-report R g o (z .applied-writes))
+    let z : Writing = write-all R (child .number) relevance ws (before-writes m) in
+    ledger-performed (ledger-generation child (z .map) []) (ledger-report R child o z)
 
 -- The map is emptied unless linked and unskipped.
-abbrev pub ledger-carry-or-cold : Retention → LedgerMap → ReadAnchor → Lineage → BalSkip → List Address → List Write → LedgerPerformed
-ledger-carry-or-cold R m child l k relevance ws = cond (carries l k) (ledger-advance R child (Carried 0) relevance ws m) (ledger-advance R child (Cold l k) relevance ws [])
+abbrev pub ledger-carry-or-cold : Retention → LedgerMap → ReadAnchor → Lineage → ℕ → List Address → List Write → LedgerPerformed
+ledger-carry-or-cold R m child l k relevance ws =
+    cond (keeps-map l k) (ledger-advance R child (Carried 0) relevance ws m) (ledger-advance R child (Cold l (ledger-skip k)) relevance ws [])
 
--- get and read set the use if served, of what a look answers.
-abbrev pub ledger-touch : LedgerGeneration → Slot → Option Value → LedgerMap
-ledger-touch g s none = g .map
-ledger-touch g s (some v) = ledger-insert s (g .anchor .number) v (g .map)
+-- A look, a get and a read, of what a look answers: get and read set the use if served; an unserved read waits.
+abbrev pub ledger-look : Option Value → Report
+ledger-look none = no-value
+ledger-look (some v) = value v
+
+abbrev pub ledger-use : LedgerGeneration → Slot → Value → LedgerGeneration
+ledger-use g s v = ledger-generation (g .anchor) (set s (kept (g .anchor .number) v) (g .map)) (g .awaiting)
+
+abbrev pub ledger-get : LedgerGeneration → Slot → Option Value → LedgerPerformed
+ledger-get g s none = ledger-performed g no-value
+ledger-get g s (some v) = ledger-performed (ledger-use g s v) (value v)
 
 abbrev pub ledger-read : LedgerGeneration → Slot → Option Value → LedgerPerformed
-ledger-read g s none = ledger-performed (ledger-generation (g .anchor) (g .map) (join s (g .pending))) (waiting (suc (waiters-of s (g .pending))))
-ledger-read g s (some v) = ledger-performed (ledger-generation (g .anchor) (ledger-insert s (g .anchor .number) v (g .map)) (g .pending)) (value v)
+ledger-read g s none =
+    let w : Awaiting = one-more-waiter (lookup s (g .awaiting)) in
+    ledger-performed (ledger-generation (g .anchor) (g .map) (set s w (g .awaiting))) (waiting (w .waiters))
+ledger-read g s (some v) = ledger-performed (ledger-use g s v) (value v)
 
--- The map after the members of an answer: a value sets value and use.
-abbrev pub ledger-settle-outcome : ℕ → Slot → Option Value → LedgerMap → LedgerMap
-ledger-settle-outcome now s none m = m
-ledger-settle-outcome now s (some v) m = ledger-insert s now v m
+-- An answer to some slots, of the map after it and its member errors: the slots go, and their waiters wake.
+abbrev pub ledger-answer : LedgerGeneration → LedgerMap → List Slot → ℕ → LedgerPerformed
+ledger-answer g m ss errors =
+    ledger-performed (ledger-generation (g .anchor) m (without ss (g .awaiting))) (answered (length ss) errors (waiters-among ss (g .awaiting)))
 
-unfoldable pub ledger-settle-members : ℕ → List Member → LedgerMap → LedgerMap
-ledger-settle-members now [] m = m
-ledger-settle-members now (x ∷ xs) m = ledger-settle-members now xs (ledger-settle-outcome now (x .slot) (x .outcome) m)
-
--- A call at the one anchor.
+-- A call at the one anchor. A round that fails as a whole has no member errors.
 abbrev pub ledger-perform-at : Retention → LedgerGeneration → AnchoredCall → LedgerPerformed
-ledger-perform-at R g (look s) = ledger-performed g (value-report (ledger-resolved R g s))
-ledger-perform-at R g (get s) = ledger-performed (ledger-generation (g .anchor) (ledger-touch g s (ledger-resolved R g s)) (g .pending)) (value-report (ledger-resolved R g s))
-ledger-perform-at R g (put s v) = ledger-performed (ledger-generation (g .anchor) (ledger-insert s (g .anchor .number) v (g .map)) (g .pending)) stored
+ledger-perform-at R g (look s) = ledger-performed g (ledger-look (ledger-resolved R g s))
+ledger-perform-at R g (get s) = ledger-get g s (ledger-resolved R g s)
+ledger-perform-at R g (put s v) = ledger-performed (ledger-use g s v) stored
 ledger-perform-at R g (read s) = ledger-read g s (ledger-resolved R g s)
-ledger-perform-at R g take = ledger-performed (ledger-generation (g .anchor) (g .map) (take-queued (g .pending))) (listed (queued (g .pending)))
-ledger-perform-at R g (answer ms) =
-    ledger-performed (ledger-generation (g .anchor) (ledger-settle-members (g .anchor .number) ms (g .map)) (remove-all-pending (member-slots ms) (g .pending)))
-    (answered (length (member-slots ms)) (length (refused-slots ms)) (woken (member-slots ms) (g .pending)))
-ledger-perform-at R g (answer-failed ss) =
-    ledger-performed (ledger-generation (g .anchor) (g .map) (remove-all-pending ss (g .pending))) (answered (length ss) 0 (woken ss (g .pending)))
+ledger-perform-at R g take = ledger-performed (ledger-generation (g .anchor) (g .map) (all-marked (g .awaiting))) (listed (not-taken (g .awaiting)))
+ledger-perform-at R g (answer ms) = ledger-answer g (settle-values (g .anchor .number) ms (g .map)) (map (λ x. x .slot) ms) (member-errors ms)
+ledger-perform-at R g (answer-failed ss) = ledger-answer g (g .map) ss 0
 
--- install or an advance naming the installed anchor changes nothing. With no anchor an accepted call is an install or an advance.
+-- install or an advance naming the installed anchor changes nothing. With no anchor an accepted call is an install or an advance: the third case is never met.
 abbrev pub ledger-perform-some : Retention → LedgerGeneration → StoreCall → LedgerPerformed
-ledger-perform-some R g (install a) = cond (anchor-eqb (g .anchor) a) (ledger-performed g anchor-same) (ledger-performed (ledger-generation a [] []) anchor-fresh)
+ledger-perform-some R g (install a) =
+    cond (anchor-eqb (g .anchor) a) (ledger-performed g anchor-same) (ledger-performed (ledger-generation a [] []) anchor-fresh)
 ledger-perform-some R g (advance child h k relevance ws) =
-    cond (anchor-eqb (g .anchor) child) (ledger-performed g (ledger-report R g AlreadyCurrent no-writes))
-    (ledger-carry-or-cold R (g .map) child (classify-link (some (g .anchor)) child h) (skip-of k) relevance ws)
+    cond (anchor-eqb (g .anchor) child) (ledger-performed g (ledger-report R (g .anchor) AlreadyCurrent (before-writes (g .map))))
+    (ledger-carry-or-cold R (g .map) child (ledger-link (some (g .anchor)) child h) k relevance ws)
 ledger-perform-some R g (at-anchor a c) = ledger-perform-at R g c
 
 abbrev pub ledger-perform-none : Retention → StoreCall → LedgerPerformed
 ledger-perform-none R (install a) = ledger-performed (ledger-generation a [] []) anchor-fresh
-ledger-perform-none R (advance child h k relevance ws) = ledger-advance R child (Cold (classify-link none child h) (skip-of k)) relevance ws []
+ledger-perform-none R (advance child h k relevance ws) = ledger-carry-or-cold R [] child (ledger-link none child h) k relevance ws
 ledger-perform-none R (at-anchor a c) = record { installed = none; report = no-value }
 
 unfoldable pub ledger-perform : Retention → Option LedgerGeneration → StoreCall → LedgerPerformed
 ledger-perform R none c = ledger-perform-none R c
 ledger-perform R (some g) c = ledger-perform-some R g c
 
--- An accepted call. An open starts the ledger anew, with no anchor and its retention; before an open nothing else is accepted.
+-- An accepted call. An open starts the ledger anew, with no anchor and its retention; before it nothing else is accepted, so that the second case is never met.
 pub record LedgerStepResult : Type 0 where
   pub ledger : Option Ledger
   pub report : Report
@@ -219,7 +319,8 @@ ledger-step l (open-store capacity depth R) = record { ledger = some (record { r
 ledger-step none (on-store c) = record { ledger = none; report = no-value }
 ledger-step (some l) (on-store c) = after-ledger-call (l .retention) (ledger-perform (l .retention) (l .installed) c)
 
--- The ledger's answers over a list of calls, and the ledger after it. It is fed the calls and, for each, whether it was turned down; a call turned down changes nothing.
+-- The ledger's answers over a list of calls, and the ledger after it.
+-- It is fed the calls and, for each, whether it was turned down (so that flags never end first); a call turned down changes nothing.
 unfoldable pub ledger-trace : Option Ledger → List Call → List Bool → List (Option Report)
 ledger-trace l [] bs = []
 ledger-trace l (c ∷ cs) [] = []

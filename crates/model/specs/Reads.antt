@@ -108,50 +108,25 @@ settle-members now (m ∷ ms) l = settle-members now ms (settle-outcome now (m .
 
 -- The running totals -------------------------------------------------------------------------------
 
--- The totals of a new generation.
+-- The totals in the order of their fields; those of a new generation.
+abbrev pub read-totals : ℕ → ℕ → ℕ → ℕ → ℕ → ℕ → ℕ → ℕ → ℕ → ReadTotals
+read-totals a s w v r n m e c = record { accepted = a; served = s; waiting = w; valued = v; refused = r; rounds = n; members = m; errors = e; coalesced = c }
+
 abbrev pub no-reads : ReadTotals
-no-reads = record { accepted = 0; served = 0; waiting = 0; valued = 0; refused = 0; rounds = 0; members = 0; errors = 0; coalesced = 0 }
+no-reads = read-totals 0 0 0 0 0 0 0 0 0
 
 -- The totals after a served read, and after a read that waits; `joined` says whether its slot was awaiting already.
 abbrev pub count-served : ReadTotals → ReadTotals
-count-served t =
-    record {
-      accepted = suc (t .accepted);
-      served = suc (t .served);
-      waiting = t .waiting;
-      valued = t .valued;
-      refused = t .refused;
-      rounds = t .rounds;
-      members = t .members;
-      errors = t .errors;
-      coalesced = t .coalesced;
-    }
+count-served t = read-totals (suc (t .accepted)) (suc (t .served)) (t .waiting) (t .valued) (t .refused) (t .rounds) (t .members) (t .errors) (t .coalesced)
 
 abbrev pub count-waiting : Bool → ReadTotals → ReadTotals
 count-waiting joined t =
-    record {
-      accepted = suc (t .accepted);
-      served = t .served;
-      waiting = suc (t .waiting);
-      valued = t .valued;
-      refused = t .refused;
-      rounds = t .rounds;
-      members = t .members;
-      errors = t .errors;
-      coalesced = cond joined (suc (t .coalesced)) (t .coalesced);
-    }
+    read-totals (suc (t .accepted)) (t .served) (suc (t .waiting)) (t .valued) (t .refused)
+    (t .rounds) (t .members) (t .errors) (cond joined (suc (t .coalesced)) (t .coalesced))
 
--- The totals after an answer: of its slots (members), its refused members (errors), and the waiters that it wakes with a value and refused. An empty answer counts no round.
+-- The totals after an answer: of its slots (members), its refused members (errors), and the waiters that it wakes with a value and refused.
+-- An empty answer counts no round.
 abbrev pub count-answer : ℕ → ℕ → ℕ → ℕ → ReadTotals → ReadTotals
 count-answer m e v r t =
-    record {
-      accepted = t .accepted;
-      served = t .served;
-      waiting = t .waiting - (v + r);
-      valued = t .valued + v;
-      refused = t .refused + r;
-      rounds = cond (eqb m 0) (t .rounds) (suc (t .rounds));
-      members = t .members + m;
-      errors = t .errors + e;
-      coalesced = t .coalesced;
-    }
+    read-totals (t .accepted) (t .served) (t .waiting - (v + r)) (t .valued + v) (t .refused + r)
+    (cond (eqb m 0) (t .rounds) (suc (t .rounds))) (t .members + m) (t .errors + e) (t .coalesced)

@@ -12,12 +12,14 @@ use Rattle.model.specs.Reads.{is-awaiting, queued, all-taken, has-duplic
 use Rattle.model.specs.Store.{Config, Generation, Store, AnchoredCall, look, get, put, read, take, answer, answer-failed, StoreCall, install, advance, at-anchor, Call, open-store, on-store, Report, resolved, chain, Memory, Accepted, accept, perform}
 
 -- The sizes of what is lent to one call: the store's and the work area's bytes, and the entries that the output holds.
+-- An open asks for enough store bytes (9). For any other call they have been read before, as a store or as none (20): to it this number means nothing.
 pub record Lent : Type 0 where
   pub store-bytes : ℕ
   pub work-bytes : ℕ
   pub output-entries : ℕ
 
--- The words of eight bytes that a store of a capacity has (docs/LAYOUT.md), and its bytes. An advance's work area needs as many: it holds the store that is to be.
+-- The words of eight bytes that a store of a capacity has (docs/LAYOUT.md), and its bytes.
+-- An advance's work area needs as many: it holds the store that is to be.
 abbrev pub store-words : ℕ → ℕ
 store-words capacity = 856 + 13 * capacity
 

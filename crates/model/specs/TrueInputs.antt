@@ -30,8 +30,8 @@ pub record TrueWrites (truth : Truth) (child : ReadAnchor) (parent-hash : Hash) 
   -- it ends with the child's value for every slot that it names
   pub last-values-true : (s : Slot) (v : Value) → last-value s ws ≡ some v → v ≡ truth child s
   -- it names every slot that differs between the child and the block one below with the given parent hash; block 0 has none below
-  pub names-every-change : (n : ℕ) → child .number ≡ suc n → (s : Slot) → (truth child s ≡ truth (identified n parent-hash) s → ⊥)
-      → mem s (named-slots ws) ≡ true
+  pub names-every-change : (n : ℕ) → child .number ≡ suc n
+      → (s : Slot) → (truth child s ≡ truth (identified n parent-hash) s → ⊥) → mem s (named-slots ws) ≡ true
 
 -- Every value of an answer is the true one at its anchor.
 abbrev pub true-outcome : Truth → ReadAnchor → Slot → Option Value → Type 0
