@@ -1,13 +1,13 @@
 -- The slots of lent lists, entry by entry.
 use Prim.Native.Nat.{ℕ, zero, suc, _+_, _-_, _*_, _/_, _^_, _≤_, _<_}
 use mathlib.Core.Path.{_≡_, refl, sym, ap, ap₂, subst, _∙_}
-use mathlib.Core.Bool.{Bool, true, false, cond}
+use mathlib.Core.Bool.{Bool, true, false, _&&_, cond}
 use mathlib.Core.List.{List, [], _∷_, _++_, map}
 use mathlib.Core.Option.{some, none}
 use native.Mathlib.Nat.{div-eq-sub-div, div-eq-of-lt}
 use native.Mathlib.Numerals.{add-one}
 use native.Mathlib.Omega.{arith}
-use lib.Dec.{eqb, lit<}
+use lib.Dec.{eqb, leb, lit<}
 use lib.ListN.{length, take, drop, getD, length-drop, length-map}
 use borrow.Author.Tests.{eq-eqb, ne-eqb}
 use lib.Seq.{take-take, take-suc, drop-drop, getD-drop, getD-take}
@@ -15,7 +15,7 @@ use Rattle.model.specs.declared.delta_snapshot.Slot.{Slot}
 use Rattle.model.specs.Numbers.{num, num-from}
 use Rattle.model.specs.Slots.{Value, words-eqb}
 use Rattle.model.specs.Reads.{Pending, Member, waiters-of, woken, has-duplicate, member-slots, if-valued, if-refused, valued-slots, refused-slots}
-use Rattle.model.specs.Entries.{slot-of, member-of, chunks, slots-of, members-of}
+use Rattle.model.specs.Entries.{slot-of, member-of, chunks, slots-of, members-of, known-flags, flags-known}
 use Rattle.model.proofs.SlotLaws.{and-true}
 use Rattle.words.specs.Parts.{part}
 use Rattle.words.proofs.Numbers.{num-join, num-snoc, more-fits}
@@ -178,6 +178,22 @@ unfolding members-of chunks refused-slots
 refused-end at b h =
     let k : length (drop at b) < 85 = omega (arith, length-drop at b) in
     ap (λ (m : ℕ). length (refused-slots (map member-of (chunks 85 m (drop at b))))) (div-eq-of-lt k)
+
+-- The flag bytes of the members from `at` on, one and the rest.
+pub flags-first : (at : ℕ) (b : List ℕ) → at + 85 ≤ length b → flags-known (drop at b) ≡ (leb (getD b (at + 52) 0) 1 && flags-known (drop (at + 85) b))
+unfolding flags-known known-flags chunks
+flags-first at b k =
+    let d = drop at b in
+    let n : 85 ≤ length d = omega (arith, length-drop at b) in
+    let f : getD (take 85 d) 52 0 ≡ getD b (at + 52) 0 = getD-take 85 d 52 0 (omega arith) ∙ getD-drop at b 52 0 in
+    ap (λ (m : ℕ). known-flags (chunks 85 m d)) (div-more 85 d (omega arith) n)
+    ∙ ap₂ (λ (x : ℕ) (y : List ℕ). leb x 1 && known-flags (chunks 85 (length y / 85) y)) f (drop-drop 85 at b)
+
+pub flags-end : (at : ℕ) (b : List ℕ) → length b - at < 85 → flags-known (drop at b) ≡ true
+unfolding flags-known known-flags chunks
+flags-end at b h =
+    let k : length (drop at b) < 85 = omega (arith, length-drop at b) in
+    ap (λ (m : ℕ). known-flags (chunks 85 m (drop at b))) (div-eq-of-lt k)
 
 -- The number of entries.
 length-chunks : (w n : ℕ) (b : List ℕ) → length (chunks w n b) ≡ n

@@ -9,7 +9,8 @@ use Rattle.model.specs.declared.delta_snapshot.Slot.{Slot}
 use Rattle.model.specs.Numbers.{be}
 use Rattle.model.specs.Slots.{slot-words}
 use Rattle.model.proofs.NumberLaws.{length-be}
-use Rattle.words.specs.Parts.{part, placed, moved}
+use Rattle.words.specs.Parts.{part, placed}
+use Rattle.words.specs.Moved.{moved}
 use Rattle.words.proofs.Moves.{gap-filled}
 use Rattle.image.specs.Image.{bytes-of}
 use Rattle.image.proofs.Words.{length-bytes-of}

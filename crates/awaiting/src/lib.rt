@@ -12,7 +12,7 @@ ghost use lib.Dec.{eqb};
 ghost use lib.ListN.{length, take, drop, getD, replicate};
 ghost use Rattle.model.specs.Slots.{slot-words, slot-eqb, mem};
 ghost use Rattle.model.specs.Reads as reads;
-ghost use Rattle.model.specs.Entries.{slot-of, members-of};
+ghost use Rattle.model.specs.Entries.{slot-of, members-of, flags-known};
 ghost use Rattle.words.specs.Parts.{part, placed};
 ghost use Rattle.image.specs.Image.{bytes-of};
 ghost use Rattle.image.specs.Area.{pending-of, with-pending};
@@ -286,6 +286,20 @@ pub fn has_duplicate(list: &[u8], stride: usize) -> bool
         }
     }
     false
+}
+
+// Whether every member of a lent answer has a flag byte 0 or 1.
+pub fn flags_known(list: &[u8]) -> bool
+    ensures { λ r. ⌜ r ≡ flags-known (now (list .entry)) ⌝ }
+{
+    let mut at = 0;
+    while 85 <= list.len() - at {
+        if 1 < list[at + 52] {
+            return false;
+        }
+        at += 85;
+    }
+    true
 }
 
 // Whether every slot of a lent list is taken.

@@ -25,7 +25,7 @@ use Rattle.image.specs.WellFormed.{fits-64, anchor-fits, retention-fits,
 use Rattle.image.specs.Claims.{writes-fit, anchored-fits, store-call-fits, call-fits, memory-ok, Closure}
 use Rattle.model.proofs.SlotLaws.{split, not-both, and-left, and-right, and-intro, or-false-left, or-false-right}
 use Rattle.model.proofs.Acceptance.{Unrefused, unrefused}
-use Rattle.model.proofs.Steps.{linked, carries-both}
+use Rattle.model.proofs.RuleLaws.{linked, carries-both}
 use Rattle.image.proofs.Facts.{GenerationFacts, generation-facts}
 use Rattle.image.proofs.RecordsOk.{layer-ok, chain-ok-layer, TopOk, top-ok-empty, top-ok-settle, top-ok-touch, top-ok-seed-final-writes, top-ok-settle-members, carried-base-ok}
 use Rattle.image.proofs.PendingOk.{woken-members, length-refused}

@@ -22,7 +22,7 @@ use Rattle.known.proofs.Segments.{zero-bytes, placed-over, placed-zeros
 use Rattle.image.specs.Lent.{store-of, IsStore}
 use Rattle.image.proofs.Areas.{word}
 use Rattle.image.proofs.Lent.{store-in}
-use Rattle.known.specs.Answers.{config-of, begun, empty}
+use Rattle.known.specs.Inner.{config-of, begun, empty}
 use Rattle.known.proofs.Changed.{store-split, length-retention, length-hash}
 
 -- Empty tables are zeros, and so are those of a base of one empty layer.

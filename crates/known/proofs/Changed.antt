@@ -27,7 +27,7 @@ use Rattle.image.proofs.Extent.{Room, room}
 use Rattle.image.proofs.ReadBack.{decode-some, length-image, image-reads-back}
 use Rattle.image.proofs.Areas.{words-append}
 use Rattle.records.proofs.Written.{bytes-append}
-use Rattle.known.specs.Answers.{topped}
+use Rattle.known.specs.Inner.{topped}
 use Rattle.known.proofs.Segments.{zero-bytes, drop-zeros, replaced}
 
 -- Bytes that are a store are its image, and what follows.

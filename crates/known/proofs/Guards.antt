@@ -19,7 +19,8 @@ use Rattle.image.proofs.Lent.{store-in, generation-in, installed, generation-is
 use Rattle.records.specs.declared.Found.{Found}
 use Rattle.records.specs.declared.Found.the-variants.{At, Absent}
 use Rattle.records.specs.Records.{count-after}
-use Rattle.known.specs.Answers.{anchored-refusal, alone, Stepped}
+use Rattle.known.specs.Answers.{alone, Stepped}
+use Rattle.known.specs.Inner.{anchored-refusal}
 use Rattle.known.proofs.Turned.{Plain}
 use Rattle.known.proofs.Said.{said-21, said-22, Other}
 

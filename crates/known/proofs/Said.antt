@@ -21,7 +21,8 @@ use Rattle.image.specs.WellFormed.{installed-ok}
 use Rattle.image.specs.Image.{decode, overlay, bytes-after, BytesResult, bytes-step}
 use Rattle.image.proofs.Facts.{generation-facts, store-facts}
 use Rattle.image.proofs.ReadBack.{decode-some}
-use Rattle.known.specs.Answers.{config-of, empty, begun, topped, alone, Stepped}
+use Rattle.known.specs.Answers.{alone, Stepped}
+use Rattle.known.specs.Inner.{config-of, empty, begun, topped}
 use Rattle.known.proofs.Changed.{store-split}
 use Rattle.known.proofs.Turned.{Plain, plain-look, plain-get, plain-put, memory-of, nothing-there, other-there, this-there, look-accepted, get-unserved, get-served, put-accepted, over-by, install-free, install-same, install-other, install-first, no-store, open-table}
 

@@ -22,7 +22,7 @@ use Rattle.records.specs.declared.Found.the-variants.{At, Absent}
 use Rattle.records.specs.Records.{place-in, count-after, Ready, Holds}
 use Rattle.records.proofs.Places.{length-insert}
 use Rattle.layers.proofs.Search.{lent}
-use Rattle.known.specs.Answers.{topped, Placed}
+use Rattle.known.specs.Inner.{topped, Placed}
 use Rattle.known.proofs.Changed.{new-top, top-exact}
 
 -- A part that was lent from place a to the end is back at ys.

@@ -1,2 +1,3 @@
 -- What the answers of the calls mean, and what a call's contract says.
 pub mod Answers
+pub mod Inner

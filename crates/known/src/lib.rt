@@ -23,7 +23,8 @@ ghost use Rattle.words.specs.Parts.{part, placed};
 ghost use Rattle.image.specs.Image.{bytes-of, magic, decode, overlay, bytes-step};
 ghost use Rattle.image.specs.Lent.{store-of, generation-of, IsStore, Installed as HasGeneration};
 ghost use Rattle.records.specs.Records.{place-in, count-after};
-ghost use Rattle.known.specs.Answers.{opened-answer, installed-answer, looked-answer, put-answer, anchored-refusal, config-of, empty, begun, topped, Placed, alone, Stepped};
+ghost use Rattle.known.specs.Answers.{opened-answer, installed-answer, looked-answer, put-answer, alone, Stepped};
+ghost use Rattle.known.specs.Inner.{anchored-refusal, config-of, empty, begun, topped, Placed};
 
 // The first word of every store: the letters `poxilme` and the layout's number.
 pub const MAGIC: u64 = 0x706f_7869_6c6d_6501;

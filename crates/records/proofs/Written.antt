@@ -7,7 +7,8 @@ use lib.ListN.{length, take, drop, length-append, length-take, length-drop}
 use lib.Seq.{take-at, drop-at, drop-drop, length-take-le}
 use Rattle.model.specs.Numbers.{be}
 use Rattle.model.proofs.NumberLaws.{length-be}
-use Rattle.words.specs.Parts.{part, placed, moved}
+use Rattle.words.specs.Parts.{part, placed}
+use Rattle.words.specs.Moved.{moved}
 use Rattle.words.proofs.Moves.{gap-filled}
 use Rattle.image.specs.Image.{bytes-of}
 use Rattle.image.proofs.Words.{length-bytes-of}

@@ -31,7 +31,8 @@ use Rattle.fold.specs.Fold.{folded, dropped-in}
 use Rattle.fold.proofs.FoldedLaws.{compact-is}
 use Rattle.fold.proofs.FitLaws.{folded-short}
 use Rattle.seal.specs.declared.CompactionCounts.{CompactionCounts}
-use Rattle.seal.specs.Sealed.{begun-on, compacted, report-of, Sealed, header-words, with-layer, topped-up}
+use Rattle.seal.specs.Sealed.{begun-on, compacted, Sealed, header-words, with-layer, topped-up}
+use Rattle.seal.specs.Report.{report-of}
 use Rattle.seal.proofs.Kept.{records-rest}
 use Rattle.seal.proofs.Folded.{bytes-in, length-in, two-layers, folded-by}
 

@@ -1,2 +1,3 @@
 -- What a store is after the seal of an advance.
+pub mod Report
 pub mod Sealed

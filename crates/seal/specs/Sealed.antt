@@ -7,11 +7,12 @@ use lib.ListN.{length, replicate}
 use Rattle.model.specs.declared.storage_memo.ReadAnchor.{ReadAnchor}
 use Rattle.model.specs.Numbers.{be}
 use Rattle.model.specs.Layers.{Layer}
-use Rattle.model.specs.Advance.{CompactionReport, Compaction, compact-base, seal}
+use Rattle.model.specs.Advance.{Compaction, compact-base, seal}
 use Rattle.model.specs.Store.{Config, Generation, Store, Memory, new-generation}
 use Rattle.words.specs.Parts.{placed}
 use Rattle.image.specs.Image.{bytes-of, hash-words, all-record-words, padded, config-words, overlay}
 use Rattle.seal.specs.declared.CompactionCounts.{CompactionCounts}
+use Rattle.seal.specs.Report.{report-of}
 
 -- The anchor of what is installed, or none.
 abbrev pub anchor-of : Option Generation → Option ReadAnchor
@@ -29,10 +30,6 @@ begun-on cfg a b = some (record { config = cfg; installed = some (new-generation
 -- The base of a generation before it is sealed, folded at its number if that is due, and the fold's report.
 abbrev pub compacted : Config → Generation → Compaction
 compacted cfg g = compact-base (cfg .retention) (cfg .max-depth) (g .anchor .number) (g .base)
-
--- The report that the code's counts of a fold stand for.
-abbrev pub report-of : CompactionCounts → CompactionReport
-report-of c = record { merged = c .merged; left = c .left; dropped = c .dropped }
 
 -- What a seal leaves in the work area, and its counts: of the top and of the base as it is before the seal, folded or not.
 pub record Sealed (c : CompactionCounts) (after before : List ℕ) (cfg : Config) (child : ReadAnchor) (t : Layer) (k : Compaction) : Type 0 where

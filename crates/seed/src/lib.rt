@@ -18,7 +18,7 @@ ghost use Rattle.model.specs.Entries.{u256-at, address-of, slot-of, addresses-o
 ghost use Rattle.words.specs.Parts.{part};
 ghost use Rattle.image.specs.Image.{overlay};
 ghost use Rattle.image.specs.Lent.{store-of, generation-of, Installed};
-ghost use Rattle.known.specs.Answers.{topped, Placed};
+ghost use Rattle.known.specs.Inner.{topped, Placed};
 ghost use Rattle.seed.specs.Rising.{address-ltb, Rise, RiseIf, bucket-of, Noted, Indexed};
 ghost use Rattle.seed.specs.Writes.{kind-of, applied-kind, Settled, Wrote, count-one, SeededAs};
 

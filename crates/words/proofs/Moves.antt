@@ -7,7 +7,8 @@ use native.Mathlib.Numerals.{add-one}
 use native.Mathlib.Omega.{arith}
 use lib.ListN.{length, take, drop, getD, set, length-take, length-drop, length-append, take-append-drop, List·getD-append}
 use lib.Seq.{take-set-lt, take-suc-set, set-append-left, append-snoc, drop-cons, getD-take, length-take-le, take-all, take-at, drop-at, drop-append-le, take-append-le, take-take, drop-drop}
-use Rattle.words.specs.Parts.{part, moved, placed}
+use Rattle.words.specs.Parts.{part, placed}
+use Rattle.words.specs.Moved.{moved}
 
 -- the move half way: the bytes from place k of the run on have been moved
 abbrev pub moving : ℕ → ℕ → ℕ → List ℕ → ℕ → List ℕ

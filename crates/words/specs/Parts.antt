@@ -10,7 +10,3 @@ part at n s = take n (drop at s)
 -- r stands at place `at`; what is before and after is as it was.
 abbrev pub placed : ℕ → List ℕ → List ℕ → List ℕ
 placed at r s = take at s ++ r ++ drop (at + length r) s
-
--- The n bytes from place `at` on stand `by` places higher; what is before and after them is as it was.
-abbrev pub moved : ℕ → ℕ → ℕ → List ℕ → List ℕ
-moved at n by s = take (at + by) s ++ part at n s ++ drop (at + by + n) s

@@ -3,7 +3,8 @@ ghost use mathlib.Core.Path.{_≡_};
 ghost use Prim.Native.Nat.{_+_, _≤_, _<_, _^_};
 ghost use lib.ListN.{length, replicate};
 ghost use Rattle.model.specs.Numbers.{num, be};
-ghost use Rattle.words.specs.Parts.{part, placed, moved};
+ghost use Rattle.words.specs.Parts.{part, placed};
+ghost use Rattle.words.specs.Moved.{moved};
 
 fn wide(x: u8) -> u64
     ensures { λ r. ⌜ r ≡ x ⌝ }

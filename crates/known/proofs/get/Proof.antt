@@ -12,7 +12,7 @@ use Rattle.image.proofs.Lent.{decoded-some}
 use Rattle.layers.specs.Answers.{held-option}
 use Rattle.layers.specs.declared.Held.the-variants.{Value as HeldValue}
 use Rattle.records.specs.Records.{count-after}
-use Rattle.known.specs.Answers.{Placed}
+use Rattle.known.specs.Inner.{Placed}
 use Rattle.known.proofs.Segments.{known-bytes}
 use Rattle.known.proofs.Turned.{plain-get}
 use Rattle.known.proofs.Said.{with-bytes, said-none, said-get, said-get-full}

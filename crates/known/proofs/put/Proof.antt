@@ -9,7 +9,7 @@ use Rattle.model.specs.Store.{chain}
 use Rattle.image.specs.Lent.{store-of, generation-of}
 use Rattle.image.proofs.Lent.{decoded-some}
 use Rattle.records.specs.Records.{count-after}
-use Rattle.known.specs.Answers.{Placed}
+use Rattle.known.specs.Inner.{Placed}
 use Rattle.known.proofs.Segments.{known-bytes}
 use Rattle.known.proofs.Turned.{plain-put}
 use Rattle.known.proofs.Said.{with-bytes, said-put, said-put-full}
