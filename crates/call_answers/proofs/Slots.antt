@@ -5,12 +5,11 @@ use mathlib.Core.List.{List, [], _∷_, _++_}
 use native.Mathlib.Numerals.{add-one}
 use lib.ListN.{length, drop}
 use Rattle.model.specs.declared.delta_snapshot.Slot.{Slot}
-use Rattle.model.specs.Entries.{slot-of}
+use Rattle.model.specs.Entries.{slot-of, first-slots}
 use Rattle.words.specs.Parts.{part}
 use Rattle.call_list.specs.Listing.{ascii, line, slot-hex, slot-lines}
 use Rattle.listing.proofs.Lengths.{slot-lines-length}
 use Rattle.seed.proofs.Entries.{length-chunks, chunk-at, none-left}
-use Rattle.call_answers.specs.Answers.{first-slots}
 
 -- The slots from the i-th on.
 abbrev pub slots-from : ℕ → ℕ → List ℕ → List Slot

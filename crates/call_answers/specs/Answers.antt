@@ -1,15 +1,16 @@
 -- The code's answer of a call of any kind, and its lines.
 use Prim.Native.Nat.{ℕ}
-use mathlib.Core.List.{List, [], _∷_, _++_, map}
+use mathlib.Core.List.{List, [], _∷_, _++_}
 use lib.ListN.{length}
-use Rattle.model.specs.declared.delta_snapshot.Slot.{Slot}
-use Rattle.model.specs.Entries.{chunks, slot-of}
+use Rattle.model.specs.Advance.{AppliedWrites, CompactionReport, DeltaReport}
+use Rattle.model.specs.Entries.{first-slots}
 use Rattle.model.specs.Store.{Report, opened, anchor-same, anchor-fresh, advanced, value, no-value, stored, waiting, listed, answered}
 use Rattle.model.specs.Refusals.{Answer, refuse, ok}
 use Rattle.known_advance.specs.declared.AdvanceReport.{AdvanceReport}
 use Rattle.known_advance.specs.declared.Advanced.{Advanced}
 use Rattle.known_advance.specs.declared.Advanced.the-variants as advance
-use Rattle.known_advance.specs.Reports.{report-for}
+use Rattle.seal.specs.declared.CompactionCounts.{CompactionCounts}
+use Rattle.seed.specs.declared.WriteCounts.{WriteCounts}
 use Rattle.known_reads.specs.declared.TakeAnswer.{TakeAnswer}
 use Rattle.known_reads.specs.declared.TakeAnswer.the-variants as take
 use Rattle.listing.specs.declared.AdvanceCounts.{AdvanceCounts}
@@ -17,6 +18,17 @@ use Rattle.listing.specs.Lines.{counts-line}
 use Rattle.call_list.specs.Listing.{ascii, line, decimals, slot-lines, refusal-line, report-lines}
 use Rattle.call_answers.specs.declared.CallAnswer.{CallAnswer}
 use Rattle.call_answers.specs.declared.CallAnswer.the-variants.{No, Open, AnchorSame, AnchorFresh, Advance, Value, Nothing, Put, Wait, Take, Answer as Answered}
+
+-- The code's counts for a report of writes and for a fold's, and its report for an advance's.
+abbrev pub counts-of-writes : AppliedWrites → WriteCounts
+counts-of-writes t = record { applied = length (t .applied); overwritten = t .overwritten; skipped = t .skipped }
+
+abbrev pub counts-of-fold : CompactionReport → CompactionCounts
+counts-of-fold c = record { merged = c .merged; left = c .left; dropped = c .dropped }
+
+abbrev pub report-for : DeltaReport → AdvanceReport
+report-for d =
+    record { outcome = d .outcome; writes = counts-of-writes (d .writes); held = d .held; live = d .live; compaction = counts-of-fold (d .compaction) }
 
 -- The code's answer for the model's.
 abbrev pub call-report : Report → CallAnswer
@@ -57,10 +69,6 @@ counts-in r =
       left = r .compaction .left;
       dropped = r .compaction .dropped;
     }
-
--- The first n slots of an output.
-abbrev pub first-slots : ℕ → List ℕ → List Slot
-first-slots n b = map slot-of (chunks 52 n b)
 
 -- The slots that an answer lists.
 abbrev pub slots-listed : CallAnswer → ℕ

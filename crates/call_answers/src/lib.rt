@@ -2,11 +2,12 @@
 ghost use mathlib.Core.Path.{_≡_};
 ghost use Prim.Native.Nat.{_+_, _*_, _≤_};
 ghost use lib.ListN.{length};
+ghost use Rattle.model.specs.Entries.{first-slots};
 ghost use Rattle.known.specs.Answers.{opened-answer, installed-answer, looked-answer, put-answer};
 ghost use Rattle.known_reads.specs.Answers.{read-answer, answered-answer};
 ghost use Rattle.call_list.specs.Listing.{slot-lines};
 ghost use Rattle.listing.specs.Lines.{Written, counts-line};
-ghost use Rattle.call_answers.specs.Answers.{call-answer, take-as, advance-as, counts-in, first-slots, slots-listed, take-lines, lines-of};
+ghost use Rattle.call_answers.specs.Answers.{call-answer, take-as, advance-as, counts-in, slots-listed, take-lines, lines-of};
 use known::Installed;
 use known::Looked;
 use known::Opened;

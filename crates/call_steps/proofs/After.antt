@@ -1,6 +1,6 @@
 -- What a call leaves: whether the bytes are a store, how many bytes and how long an output, and room for the slots that it lists. Assumes nothing.
 use Prim.Native.Nat.{ℕ, suc, _*_, _/_, _≤_}
-use mathlib.Core.Path.{_≡_, refl, ap, _∙_}
+use mathlib.Core.Path.{_≡_, refl, sym, ap, subst, _∙_}
 use mathlib.Core.Bool.{Bool, true, false, cond}
 use mathlib.Core.List.{List, [], _∷_}
 use mathlib.Core.Option.{Option, some, none}
@@ -21,6 +21,7 @@ use Rattle.model.specs.Entries.{slot-bytes, slots-bytes, with-slots}
 use Rattle.model.specs.Store.{Config, Generation, AnchoredCall, look, get, put, read, take, answer, answer-failed, StoreCall, install, advance, at-anchor, Call, open-store, on-store, Report, listed, Store, Memory, value-report, perform-get, perform-read, perform-at, resolved, perform, accept}
 use Rattle.model.specs.Refusals.{Lent, work-size, Answer, ok, refusal, lent-too-short, output-short-of-queue, conclude, step}
 use Rattle.model.proofs.SlotLaws.{split, or-false-right}
+use Rattle.model.proofs.EntryLaws.{SlotFits, Each, each-none}
 use Rattle.model.proofs.Acceptance.{Unrefused, unrefused}
 use Rattle.image.specs.WellFormed.{installed-ok}
 use Rattle.image.specs.Claims.{call-fits, memory-ok}
@@ -35,7 +36,8 @@ use Rattle.awaiting.proofs.Entries.{length-slot}
 use Rattle.call_answers.specs.declared.CallAnswer.{CallAnswer}
 use Rattle.call_answers.specs.declared.CallAnswer.the-variants.{No, Open, AnchorSame, AnchorFresh, Advance, Value as Found, Nothing, Put, Wait, Take, Answer as Answered}
 use Rattle.call_answers.specs.Answers.{call-answer, slots-listed}
-use Rattle.call_answers.proofs.Lines.{listed-in, slots-fit, SlotsFit, slots-listed-count, queued-fit}
+use Rattle.known_reads.proofs.Queue.{queued-fit}
+use Rattle.call_answers.proofs.Lines.{listed-in, SlotsFit, slots-listed-count}
 use Rattle.call_steps.specs.Steps.{with-lent, store-after}
 use Rattle.call_steps.proofs.Said.{IsAdvanced, is-advanced, reported}
 
@@ -83,16 +85,15 @@ pub record AnswerRoom (a : Answer) (entries : List ℕ) : Type 0 where
 record Listing (n : ℕ) (r : Report) : Type 0 where
   few : length (listed-in r) ≤ 64
   held : length (listed-in r) ≤ n
-  fit : slots-fit (listed-in r) ≡ true
+  fit : Each SlotFits (listed-in r)
   puts : length (output-slots r) ≤ n
 
 -- A report that lists and puts nothing.
 silent : (n : ℕ) (r : Report) → listed-in r ≡ [] → output-slots r ≡ [] → Listing n r
-unfolding slots-fit
 silent n r e f =
     let x : length (listed-in r) ≡ 0 = ap length e in
     let y : length (output-slots r) ≡ 0 = ap length f in
-    record { few = omega arith; held = omega arith; fit = ap slots-fit e; puts = omega arith }
+    record { few = omega arith; held = omega arith; fit = subst (λ (ss : List Slot). Each SlotFits ss) (sym e) each-none; puts = omega arith }
 
 length-cond : (t : Bool) (s : Slot) (ss : List Slot) → length (cond t ss (s ∷ ss)) ≤ suc (length ss)
 length-cond true s ss = omega arith
@@ -117,8 +118,7 @@ module _ (n : ℕ) where
   of-read g s (some v) = silent n _ refl refl
 
   of-advance : (k : ℕ) {r : Report} → IsAdvanced k r → k ≤ n → Listing n r
-  unfolding slots-fit
-  of-advance k (is-advanced d e) h = record { few = omega arith; held = omega arith; fit = refl; puts = omega arith }
+  of-advance k (is-advanced d e) h = record { few = omega arith; held = omega arith; fit = each-none; puts = omega arith }
 
 -- An accepted take, by what was not refused: 27; and an advance: 9.
 of-take : (cfg : Config) (g : Generation) (l : Lent) (a : ReadAnchor) → installed-ok cfg (some g) ≡ true → Unrefused (memory-of cfg (some g)) l (on-store (at-anchor a take)) → Listing (l .output-entries) (listed (queued (g .pending)))
@@ -178,11 +178,11 @@ module _ (b : List ℕ) (c : Call) (w : ℕ) (entries : List ℕ) where
   reports q = accepted (decode b) lent c (decoded-ok b (decode b) refl) (unrefused (decode b) lent c q)
 
   pub answer-room : AnswerRoom (bytes-step b (with-lent c w entries) .answer) entries
-  unfolding bytes-step step slots-fit
+  unfolding bytes-step step
   answer-room = go (refusal (decode b) lent c) refl
     where
       go : (r : Option ℕ) → refusal (decode b) lent c ≡ r → AnswerRoom (conclude r (decode b) (accept (decode b) c) .answer) entries
-      go (some n) q = record { few = omega arith; held = omega arith; fit = refl }
+      go (some n) q = record { few = omega arith; held = omega arith; fit = each-none }
       go none q =
           let r : Report = accept (decode b) c .report in
           let k : Listing (length entries / 52) r = reports q in

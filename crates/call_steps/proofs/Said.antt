@@ -16,10 +16,10 @@ use Rattle.model.specs.Advance.{Write, WriteKind, overwrite, new, skip, Applied
 use Rattle.model.specs.Reads.{Member, has-duplicate}
 use Rattle.model.specs.Layers.{Layer, find, is-some, freshest-use}
 use Rattle.model.specs.Entries.{slots-bytes}
-use Rattle.model.specs.Store.{Config, Generation, AnchoredCall, look, get, put, read, take, answer, answer-failed, StoreCall, install, advance, at-anchor, Call, open-store, on-store, Report, advanced, listed, Memory, accept, perform, carry, cold-advance}
-use Rattle.model.specs.Refusals.{Lent, answered-slots, Answer, refuse, ok, refusal, conditions, lent-too-short, output-short-of-queue, conclude, step}
+use Rattle.model.specs.Store.{Config, Generation, AnchoredCall, look, get, put, read, take, answer, answer-failed, StoreCall, install, advance, at-anchor, Call, open-store, on-store, Report, advanced, Memory, perform, carry, cold-advance}
+use Rattle.model.specs.Refusals.{answered-slots, Answer, refuse, refusal, conditions, lent-too-short, output-short-of-queue, step}
 use Rattle.model.proofs.SlotLaws.{split, not-both}
-use Rattle.image.specs.Image.{decode, BytesResult, lent-call, bytes-step}
+use Rattle.image.specs.Image.{decode, BytesResult, bytes-step}
 use Rattle.image.specs.Lent.{store-of, IsStore}
 use Rattle.image.specs.Output.{output-after}
 use Rattle.known.specs.declared.Opened.{Opened}
@@ -31,20 +31,21 @@ use Rattle.known.specs.declared.Looked.the-variants as looked
 use Rattle.known.specs.declared.PutAnswer.{PutAnswer}
 use Rattle.known.specs.declared.PutAnswer.the-variants as stored
 use Rattle.known.specs.Answers.{opened-answer, installed-answer, looked-answer, put-answer, alone, Stepped}
-use Rattle.known.proofs.Turned.{memory-of, no-store}
+use Rattle.known.proofs.Turned.{no-store}
 use Rattle.known_reads.specs.declared.ReadAnswer.{ReadAnswer}
 use Rattle.known_reads.specs.declared.ReadAnswer.the-variants as waited
 use Rattle.known_reads.specs.declared.AnswerAnswer.{AnswerAnswer}
 use Rattle.known_reads.specs.declared.AnswerAnswer.the-variants as answered
 use Rattle.known_reads.specs.declared.TakeAnswer.{TakeAnswer}
-use Rattle.known_reads.specs.Answers.{read-answer, answered-answer, taken-of, with-output, Took}
-use Rattle.known_reads.proofs.Turned.{twice, nothing-there}
-use Rattle.known_reads.proofs.Said.{turned-down, none-twice}
+use Rattle.known_reads.specs.Answers.{read-answer, answered-answer, with-output, Took}
+use Rattle.known_reads.proofs.Turned.{twice}
+use Rattle.known_reads.proofs.Said.{turned-down}
 use Rattle.known_advance.specs.declared.Advanced.{Advanced}
-use Rattle.known_advance.specs.Reports.{advanced-of, AdvancedAs}
+use Rattle.known_advance.specs.Reports.{AdvancedAs}
 use Rattle.call_answers.specs.declared.CallAnswer.{CallAnswer}
 use Rattle.call_answers.specs.declared.CallAnswer.the-variants.{No}
 use Rattle.call_answers.specs.Answers.{call-answer, take-as, advance-as}
+use Rattle.call_answers.proofs.Lines.{take-means, advance-means}
 use Rattle.call_steps.specs.Steps.{with-lent, SteppedAs}
 
 -- Bytes that are no store.
@@ -143,43 +144,9 @@ said-8 b a k w e s d = refused-as 8 b e _ (turned-down b (some (store-of b)) (wi
 
 -- A take and an advance ---------------------------------------------------------------------------------
 
--- The answers of a take, and of an advance.
-pub data OfTake : Answer → Type 0 where
-  take-refused : (n : ℕ) → OfTake (refuse n)
-  take-listed : (ss : List Slot) → OfTake (ok (listed ss))
-
-pub data OfAdvance : Answer → Type 0 where
-  advance-refused : (n : ℕ) → OfAdvance (refuse n)
-  advance-done : (d : DeltaReport) → OfAdvance (ok (advanced d))
-
-take-same : {a : Answer} → OfTake a → take-as (taken-of a) ≡ call-answer a
-take-same (take-refused n) = refl
-take-same (take-listed ss) = refl
-
-advance-same : {a : Answer} → OfAdvance a → advance-as (advanced-of a) ≡ call-answer a
-advance-same (advance-refused n) = refl
-advance-same (advance-done d) = refl
-
-module _ (l : Lent) (a : ReadAnchor) where
-  take-at : (cfg : Config) (o : Option Generation) → OfTake (conclude (refusal (memory-of cfg o) l (on-store (at-anchor a take))) (memory-of cfg o) (accept (memory-of cfg o) (on-store (at-anchor a take))) .answer)
-  unfolding accept perform
-  take-at cfg none = rw (nothing-there cfg l a take none-twice) (take-refused 21)
-  take-at cfg (some g) = go (refusal (memory-of cfg (some g)) l (on-store (at-anchor a take)))
-    where
-      go : (r : Option ℕ) → OfTake (conclude r (memory-of cfg (some g)) (accept (memory-of cfg (some g)) (on-store (at-anchor a take))) .answer)
-      go none = take-listed _
-      go (some n) = take-refused n
-
-  of-take : (m : Memory) → OfTake (conclude (refusal m l (on-store (at-anchor a take))) m (accept m (on-store (at-anchor a take))) .answer)
-  of-take none = rw (no-store l (at-anchor a take)) (take-refused 20)
-  of-take (some st) = take-at (st .config) (st .installed)
-
 -- The report of an advance of n writes.
 pub data IsAdvanced (n : ℕ) : Report → Type 0 where
   is-advanced : (d : DeltaReport) → length (d .writes .applied) ≤ n → IsAdvanced n (advanced d)
-
-of-report : {n : ℕ} {r : Report} → IsAdvanced n r → OfAdvance (ok r)
-of-report (is-advanced d h) = advance-done d
 
 -- No more are applied than there are.
 count-few : (k : WriteKind) (s : Slot) (t : AppliedWrites) → length (count-write k s t .applied) ≤ suc (length (t .applied))
@@ -206,29 +173,12 @@ module _ (child : ReadAnchor) (h : U256) (k : ℕ) (relevance : List Address) (w
       (λ y. rw y (is-advanced _ (applied-few (cfg .retention) (child .number) relevance (seal (g .top) (compact-base (cfg .retention) (cfg .max-depth) (g .anchor .number) (g .base) .base)) ws [])))
       (λ y. rw y (is-advanced _ (applied-few (cfg .retention) (child .number) relevance void-base ws [])))))
 
-  of-advance : (l : Lent) (m : Memory) → OfAdvance (conclude (refusal m l (on-store (advance child h k relevance ws))) m (accept m (on-store (advance child h k relevance ws))) .answer)
-  unfolding accept
-  of-advance l none = rw (no-store l (advance child h k relevance ws)) (advance-refused 20)
-  of-advance l (some st) = go (refusal (some st) l (on-store (advance child h k relevance ws)))
-    where
-      go : (r : Option ℕ) → OfAdvance (conclude r (some st) (accept (some st) (on-store (advance child h k relevance ws))) .answer)
-      go none = of-report (reported (st .config) (st .installed))
-      go (some n) = advance-refused n
-
-pub take-answers : (b : List ℕ) (w : ℕ) (e : List ℕ) (a : ReadAnchor) → OfTake (bytes-step b (with-lent (on-store (at-anchor a take)) w e) .answer)
-unfolding bytes-step step
-take-answers b w e a = of-take (lent-call (length b) (with-lent (on-store (at-anchor a take)) w e) .lent) a (decode b)
-
-pub advance-answers : (b : List ℕ) (w : ℕ) (e : List ℕ) (child : ReadAnchor) (h : U256) (k : ℕ) (relevance : List Address) (ws : List Write) → OfAdvance (bytes-step b (with-lent (on-store (advance child h k relevance ws)) w e) .answer)
-unfolding bytes-step step
-advance-answers b w e child h k relevance ws = of-advance child h k relevance ws (lent-call (length b) (with-lent (on-store (advance child h k relevance ws)) w e) .lent) (decode b)
-
 -- A take, and an advance, answered.
 pub took-as : {r : CallAnswer} {t : TakeAnswer} {after out : List ℕ} (b : List ℕ) (w : ℕ) (e : List ℕ) (a : ReadAnchor) → r ≡ take-as t → Took t after out e (bytes-step b (with-output (on-store (at-anchor a take)) e)) → SteppedAs r after out (bytes-step b (with-lent (on-store (at-anchor a take)) w e)) e
 took-as {r} {t} {after} {out} b w e a q s =
     let h : Took t after out e (bytes-step b (with-lent (on-store (at-anchor a take)) w e)) = subst (λ (o : BytesResult). Took t after out e o) (sym (as-take b w e a)) s in
-    record { answer-is = q ∙ ap take-as (h .answer-is) ∙ take-same (take-answers b w e a); bytes-is = h .bytes-is; entries-is = h .output-is }
+    record { answer-is = q ∙ take-means t out ∙ ap call-answer (h .answer-is); bytes-is = h .bytes-is; entries-is = h .output-is }
 
 pub advanced-as : {r : CallAnswer} {t : Advanced} {after out : List ℕ} (b : List ℕ) (w : ℕ) (e : List ℕ) (child : ReadAnchor) (h : U256) (k : ℕ) (relevance : List Address) (ws : List Write) → r ≡ advance-as t → AdvancedAs t after out (bytes-step b (with-lent (on-store (advance child h k relevance ws)) w e)) e → SteppedAs r after out (bytes-step b (with-lent (on-store (advance child h k relevance ws)) w e)) e
-advanced-as b w e child h k relevance ws q s =
-    record { answer-is = q ∙ ap advance-as (s .answer-is) ∙ advance-same (advance-answers b w e child h k relevance ws); bytes-is = s .bytes-is; entries-is = s .output-is }
+advanced-as {t = t} {out = out} b w e child h k relevance ws q s =
+    record { answer-is = q ∙ advance-means t out ∙ ap call-answer (s .answer-is); bytes-is = s .bytes-is; entries-is = s .output-is }

@@ -14,7 +14,8 @@ use Rattle.model.specs.Advance.{Write}
 use Rattle.final_writes.specs.declared.Spot.{Spot}
 use Rattle.final_writes.specs.declared.Walk.{Walk}
 use Rattle.final_writes.specs.FinalWrites.{SlotChanges, AccountChanges, BalPlan, LentAccount, sum, group-accounts, account-writes, account-reads, admits, admits-from, admitted-writes, admitted-reads, filtered-entries}
-use Rattle.final_writes.specs.Lent.{read-u256, read-account, accounts-in, slots-in, reads-in, write-bytes, read-bytes}
+use Rattle.model.specs.Entries.{slot-bytes, u256-at}
+use Rattle.final_writes.specs.Lent.{read-account, accounts-in, slots-in, reads-in, write-bytes}
 use Rattle.final_writes.specs.Walking.{Filled, fill, slots-left, SlotsSeeded, ReadsSeeded, accounts-left, WalkFits, AccountsSeeded}
 use Rattle.final_writes.proofs.Entries.{entry-at, length-entries}
 use Rattle.final_writes.proofs.Filling.{fill-more, fill-counts}
@@ -64,9 +65,9 @@ module _ (p : BalPlan) (accounts slots changes reads : List ℕ) (max-writes max
       let e : 0 + (n + m) ≡ n + m = zero-add (n + m) in
       let left : l' ≡ drop n l = ap (λ (k : ℕ). accounts-left accounts slots changes reads k v) (sym (zero-add n)) ∙ x .left-is in
       let ws : List AccountChanges → List (List ℕ) = λ k. map write-bytes (admitted-writes p k) in
-      let rs : List AccountChanges → List (List ℕ) = λ k. map read-bytes (admitted-reads p k) in
+      let rs : List AccountChanges → List (List ℕ) = λ k. map slot-bytes (admitted-reads p k) in
       let add-ws : (k i : List AccountChanges) → ws (k ++ i) ≡ ws k ++ ws i = λ k i. ap (map write-bytes) (writes-append p k i) ∙ map-append write-bytes (admitted-writes p k) (admitted-writes p i) in
-      let add-rs : (k i : List AccountChanges) → rs (k ++ i) ≡ rs k ++ rs i = λ k i. ap (map read-bytes) (reads-append p k i) ∙ map-append read-bytes (admitted-reads p k) (admitted-reads p i) in
+      let add-rs : (k i : List AccountChanges) → rs (k ++ i) ≡ rs k ++ rs i = λ k i. ap (map slot-bytes) (reads-append p k i) ∙ map-append slot-bytes (admitted-reads p k) (admitted-reads p i) in
       let filtered : filtered-entries p (take (n + m) l) ≡ filtered-entries p (take n l) + filtered-entries p (take m l') =
       ap (filtered-entries p) (take-add n m l) ∙ filtered-append p (take n l) (take m (drop n l)) ∙ ap (λ (k : List AccountChanges). filtered-entries p (take n l) + filtered-entries p (take m k)) (sym left) in
       record {
@@ -134,7 +135,7 @@ module _ (accounts slots changes reads : List ℕ) (i : ℕ) (w : Walk) (here : 
           → SlotsSeeded (lent .address) slots changes most n (record { slot = w .slot; change = w .change; found = k }) wo q wo'
           → v .slot ≡ q .slot → v .change ≡ q .change → v .read ≡ w .read + m → v .writes ≤ w .writes + n → v .reads ≤ w .reads + m → v .filtered ≤ w .filtered + (n + m)
           → record { found = v .writes; out = wo' } ≡ fill 84 max-writes (map write-bytes (writes-one t)) (record { found = w .writes; out = wo })
-          → record { found = v .reads; out = ro' } ≡ fill 52 max-reads (map read-bytes (reads-one t)) (record { found = w .reads; out = ro })
+          → record { found = v .reads; out = ro' } ≡ fill 52 max-reads (map slot-bytes (reads-one t)) (record { found = w .reads; out = ro })
           → v .filtered ≡ w .filtered + filtered-one t
           → AccountsSeeded p accounts slots changes reads max-writes max-reads i 1 w wo ro v wo' ro'
       unfolding admitted-writes admitted-reads filtered-entries
@@ -159,8 +160,8 @@ module _ (accounts slots changes reads : List ℕ) (i : ℕ) (w : Walk) (here : 
                 ∙ ap (λ (x : List AccountChanges). fill 84 max-writes (map write-bytes (admitted-writes p (take 1 x))) (record { found = w .writes; out = wo })) (sym left);
             reads-filled =
                 fr
-                ∙ ap (λ (x : Bool). fill 52 max-reads (map read-bytes (reads-one x)) (record { found = w .reads; out = ro })) (sym a)
-                ∙ ap (λ (x : List AccountChanges). fill 52 max-reads (map read-bytes (admitted-reads p (take 1 x))) (record { found = w .reads; out = ro })) (sym left);
+                ∙ ap (λ (x : Bool). fill 52 max-reads (map slot-bytes (reads-one x)) (record { found = w .reads; out = ro })) (sym a)
+                ∙ ap (λ (x : List AccountChanges). fill 52 max-reads (map slot-bytes (admitted-reads p (take 1 x))) (record { found = w .reads; out = ro })) (sym left);
             filtered-is =
                 ff
                 ∙ ap (λ (x : Bool). w .filtered + filtered-one x) (sym a)
@@ -175,7 +176,7 @@ module _ (accounts slots changes reads : List ℕ) (i : ℕ) (w : Walk) (here : 
       admitted-seeded a s r =
           one-account max-writes (w .writes) _ true a s refl refl refl (s .few-found) (omega arith) (omega arith)
           (s .filled ∙ ap (λ (x : List Write). fill 84 max-writes (map write-bytes x) (record { found = w .writes; out = wo })) (sym (append-nil (account-writes the-account))))
-          (r ∙ ap (λ (x : List Slot). fill 52 max-reads (map read-bytes x) (record { found = w .reads; out = ro })) (sym (append-nil (account-reads the-account))))
+          (r ∙ ap (λ (x : List Slot). fill 52 max-reads (map slot-bytes x) (record { found = w .reads; out = ro })) (sym (append-nil (account-reads the-account))))
           (sym (add-zero (w .filtered)))
 
     pub filtered-seeded : (p : BalPlan) (max-writes max-reads : ℕ) (q : Spot) (wo wo' ro : List ℕ) → admits-from (p .addresses) (lent .address) ≡ false
@@ -188,7 +189,7 @@ module _ (accounts slots changes reads : List ℕ) (i : ℕ) (w : Walk) (here : 
         let counted : _≡_ {A = Filled} (record { found = q .found; out = wo' }) (record { found = 0 + length (map write-bytes ws); out = wo }) = s .filled ∙ fill-counts 84 (map write-bytes ws) 0 wo in
         let found : q .found ≡ length ws = ap (λ (f : Filled). f .found) counted ∙ zero-add (length (map write-bytes ws)) ∙ length-map ws write-bytes in
         let kept : wo' ≡ wo = ap (λ (f : Filled). f .out) counted in
-        let rest : length (drop (w .read) (reads-in reads)) ≡ length reads / 32 - w .read = length-drop (w .read) (reads-in reads) ∙ ap (λ (x : ℕ). x - w .read) (length-entries read-u256 32 (length reads / 32) reads) in
+        let rest : length (drop (w .read) (reads-in reads)) ≡ length reads / 32 - w .read = length-drop (w .read) (reads-in reads) ∙ ap (λ (x : ℕ). x - w .read) (length-entries (u256-at 0) 32 (length reads / 32) reads) in
         let listed : length (account-reads the-account) ≡ m = length-map (the-account .storage-reads) (λ x. record { address = lent .address; index = x }) ∙ length-take-le m (drop (w .read) (reads-in reads)) (omega (arith, reads-here)) in
         one-account p max-writes max-reads q wo wo' ro ro 0 0 _ false a s refl refl refl (omega arith) (omega arith) (omega (arith, s .few-found))
         (ap (λ (x : List ℕ). record { found = w .writes; out = x }) kept) refl (omega (arith, found, listed))

@@ -1,23 +1,25 @@
 -- Entries in bytes: one at a place, and an address or a number read back. Assumes nothing.
 use mathlib.Core.Path.{_≡_, refl, sym, ap, ap₂, _∙_}
-use mathlib.Core.List.{List, [], _∷_, _++_, map}
+use mathlib.Core.List.{List, [], _∷_, _++_, map, append-assoc}
 use mathlib.Core.Bool.{Bool, true, false, not, _||_}
 use Prim.Native.Nat.{ℕ, zero, suc, _+_, _*_, _/_, _≤_, _<_}
-use native.Mathlib.Nat.{suc-mul, zero-mul, div-mul-le-self, mul-le-mul-right}
+use native.Mathlib.Nat.{suc-mul, zero-mul}
 use native.Mathlib.Omega.{arith}
 use native.Mathlib.Numerals.{add-one}
 use lib.Dec.{eqb}
 use lib.ListN.{length, take, drop, length-append, length-drop, drop-of-length-le}
-use lib.Seq.{take-add, drop-drop, getD-drop}
+use lib.Seq.{take-add, drop-drop}
 use borrow.Author.Tests.{eqb-true, eqb-false, eq-eqb, ne-eqb}
-use Rattle.model.specs.declared.delta_snapshot.Slot.{Slot}
+use Rattle.model.specs.declared.storage_memo.Address.{Address}
 use Rattle.model.specs.Advance.{Write}
 use Rattle.model.specs.Numbers.{be, num, Bytes}
 use Rattle.model.proofs.NumberLaws.{be-num, length-be}
+use Rattle.model.proofs.EntryLaws.{bytes-drop, length-slot}
 use Rattle.model.proofs.SlotLaws.{split, not-both}
 use Rattle.words.specs.Parts.{part}
 use Rattle.final_writes.specs.FinalWrites.{sum, counts-differ}
-use Rattle.final_writes.specs.Lent.{entries, all-entries, word, read-address, read-u256, read-account, read-slot, read-change, accounts-in, slots-in, changes-in, reads-in, lent-lists, address-bytes, u256-bytes, read-bytes, write-bytes}
+use Rattle.model.specs.Entries.{address-of, number-at, slot-bytes, u256-at}
+use Rattle.final_writes.specs.Lent.{entries, all-entries, read-account, read-slot, read-change, accounts-in, slots-in, changes-in, reads-in, lent-lists, u256-bytes, write-bytes}
 
 module _ {A : Type 0} (rd : List ℕ → A) (w : ℕ) where
   pub length-entries : (n : ℕ) (l : List ℕ) → length (entries rd w n l) ≡ n
@@ -56,58 +58,54 @@ eqb-both a b c d f g =
     split (eqb a b) (λ e. e ∙ sym (eq-eqb c d (f (eqb-true a b e)))) (λ e. e ∙ sym (ne-eqb c d (λ h. eqb-false a b e (g h))))
 
 -- A number at a place of a part.
-pub word-at : (o b : ℕ) (l : List ℕ) → word o (drop b l) ≡ num (part (b + o) 8 l)
+pub word-at : (o b : ℕ) (l : List ℕ) → number-at o 8 (drop b l) ≡ num (part (b + o) 8 l)
 word-at o b l = ap (λ (x : List ℕ). num (take 8 x)) (drop-drop o b l)
 
-pub bytes-drop : (k : ℕ) (l : List ℕ) → Bytes l → Bytes (drop k l)
-bytes-drop k l f = λ j. rw getD-drop (f (k + j))
-
 -- The bytes of the number at a place are the bytes there.
-word-back : (o : ℕ) (l : List ℕ) → Bytes l → o + 8 ≤ length l → be 8 (word o l) ≡ part o 8 l
+word-back : (o : ℕ) (l : List ℕ) → Bytes l → o + 8 ≤ length l → be 8 (number-at o 8 l) ≡ part o 8 l
 word-back o l f h = be-num (drop o l) (bytes-drop o l f) 8 (simp length-drop (omega arith))
 
-pub address-back : (l : List ℕ) → Bytes l → 20 ≤ length l → address-bytes (read-address l) ≡ take 20 l
+abbrev address-bytes : Address → List ℕ
+address-bytes a = be 4 (a .w0) ++ (be 8 (a .w1) ++ be 8 (a .w2))
+
+address-back : (l : List ℕ) → Bytes l → 20 ≤ length l → address-bytes (address-of l) ≡ take 20 l
 address-back l f h =
     let p : be 4 (num (take 4 l)) ≡ take 4 l = be-num l f 4 (omega arith) in
-    let q : be 8 (word 4 l) ≡ part 4 8 l = word-back 4 l f (omega arith) in
-    let r : be 8 (word 12 l) ≡ part 12 8 l = word-back 12 l f (omega arith) in
+    let q : be 8 (number-at 4 8 l) ≡ part 4 8 l = word-back 4 l f (omega arith) in
+    let r : be 8 (number-at 12 8 l) ≡ part 12 8 l = word-back 12 l f (omega arith) in
     ap₂ (λ (x y : List ℕ). x ++ y) p (ap₂ (λ (x y : List ℕ). x ++ y) q (r ∙ ap (take 8) (sym (drop-drop 8 4 l))) ∙ sym (take-add 8 8 (drop 4 l)))
     ∙ sym (take-add 4 16 l)
 
-pub u256-back : (l : List ℕ) → Bytes l → 32 ≤ length l → u256-bytes (read-u256 l) ≡ take 32 l
+pub u256-back : (l : List ℕ) → Bytes l → 32 ≤ length l → u256-bytes (u256-at 0 l) ≡ take 32 l
 u256-back l f h =
-    let o : be 8 (word 0 l) ≡ take 8 l = word-back 0 l f (omega arith) in
-    let p : be 8 (word 8 l) ≡ part 8 8 l = word-back 8 l f (omega arith) in
-    let q : be 8 (word 16 l) ≡ part 16 8 l = word-back 16 l f (omega arith) in
-    let r : be 8 (word 24 l) ≡ part 24 8 l = word-back 24 l f (omega arith) in
+    let o : be 8 (number-at 0 8 l) ≡ take 8 l = word-back 0 l f (omega arith) in
+    let p : be 8 (number-at 8 8 l) ≡ part 8 8 l = word-back 8 l f (omega arith) in
+    let q : be 8 (number-at 16 8 l) ≡ part 16 8 l = word-back 16 l f (omega arith) in
+    let r : be 8 (number-at 24 8 l) ≡ part 24 8 l = word-back 24 l f (omega arith) in
     let t : part 16 8 l ++ part 24 8 l ≡ part 16 16 l = ap (λ (x : List ℕ). part 16 8 l ++ take 8 x) (sym (drop-drop 8 16 l)) ∙ sym (take-add 8 8 (drop 16 l)) in
     let u : part 8 8 l ++ part 16 16 l ≡ part 8 24 l = ap (λ (x : List ℕ). part 8 8 l ++ take 16 x) (sym (drop-drop 8 8 l)) ∙ sym (take-add 8 16 (drop 8 l)) in
     ap₂ (λ (x y : List ℕ). x ++ y) o (ap₂ (λ (x y : List ℕ). x ++ y) p (ap₂ (λ (x y : List ℕ). x ++ y) q r ∙ t) ∙ u)
     ∙ sym (take-add 8 24 l)
 
-pub length-read-bytes : (s : Slot) → length (read-bytes s) ≡ 52
-unfolding read-bytes
-length-read-bytes s = simp (length-append, length-be)
-
 pub length-write-bytes : (w : Write) → length (write-bytes w) ≡ 84
 unfolding write-bytes
-length-write-bytes w = length-append (read-bytes (w .slot)) (u256-bytes (w .value)) ∙ simp (length-read-bytes, length-append, length-be)
+length-write-bytes w = length-append (slot-bytes (w .slot)) (u256-bytes (w .value)) ∙ simp (length-slot, length-append, length-be)
 
 -- What an entry of an output is copied from is its bytes.
 module _ (A I : List ℕ) (at i : ℕ) (fa : Bytes A) (fi : Bytes I) (ha : at + 20 ≤ length A) (hi : i + 32 ≤ length I) where
-  pub read-back : part at 20 A ++ part i 32 I ≡ read-bytes (record { address = read-address (drop at A); index = read-u256 (drop i I) })
-  unfolding read-bytes
+  pub read-back : part at 20 A ++ part i 32 I ≡ slot-bytes (record { address = address-of (drop at A); index = u256-at 0 (drop i I) })
+  unfolding slot-bytes
   read-back =
-      sym (ap₂ (λ (x y : List ℕ). x ++ y) (address-back (drop at A) (bytes-drop at A fa) (simp length-drop (omega arith))) (u256-back (drop i I) (bytes-drop i I fi) (simp length-drop (omega arith))))
+      sym (ap₂ (λ (x y : List ℕ). x ++ y) (address-back (drop at A) (bytes-drop at A fa) (simp length-drop (omega arith))) (u256-back (drop i I) (bytes-drop i I fi) (simp length-drop (omega arith)))) ∙ simp append-assoc
 
   pub write-back : (C : List ℕ) (v : ℕ) → Bytes C → v + 32 ≤ length C
-      → part at 20 A ++ part i 32 I ++ part v 32 C ≡ write-bytes (record { slot = record { address = read-address (drop at A); index = read-u256 (drop i I) }; value = read-u256 (drop v C) })
+      → part at 20 A ++ part i 32 I ++ part v 32 C ≡ write-bytes (record { slot = record { address = address-of (drop at A); index = u256-at 0 (drop i I) }; value = u256-at 0 (drop v C) })
   unfolding write-bytes
   write-back C v fc hc = ap₂ (λ (x y : List ℕ). x ++ y) read-back (sym (u256-back (drop v C) (bytes-drop v C fc) (simp length-drop (omega arith))))
 
 -- The sums and lengths of refusal 10.
 abbrev sums : List ℕ → ℕ → ℕ → ℕ → Bool
-sums b w at n = eqb (sum (all-entries (word at) w b)) n
+sums b w at n = eqb (sum (all-entries (number-at at 8) w b)) n
 
 module _ (accounts slots changes reads : List ℕ) where
   abbrev slots-agree : Bool
@@ -127,7 +125,7 @@ module _ (accounts slots changes reads : List ℕ) where
       let c : eqb (sum (map (λ x. x .change-count) (slots-in slots))) (length (changes-in changes)) ≡ changes-agree =
       ap₂ eqb (ap sum (map-entries (λ x. x .change-count) read-slot 40 (length slots / 40) slots)) (length-entries read-change 40 (length changes / 40) changes) in
       let r : eqb (sum (map (λ a. a .read-count) (accounts-in accounts))) (length (reads-in reads)) ≡ reads-agree =
-      ap₂ eqb (ap sum (map-entries (λ a. a .read-count) read-account 36 (length accounts / 36) accounts)) (length-entries read-u256 32 (length reads / 32) reads) in
+      ap₂ eqb (ap sum (map-entries (λ a. a .read-count) read-account 36 (length accounts / 36) accounts)) (length-entries (u256-at 0) 32 (length reads / 32) reads) in
       ap₂ (λ (x y : Bool). not x || y) s (ap₂ (λ (x y : Bool). not x || not y) c r)
 
   pub slots-differ : slots-agree ≡ false → false ≡ not (counts-differ (lent-lists accounts slots changes reads))

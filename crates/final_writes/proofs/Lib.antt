@@ -6,4 +6,5 @@ pub mod Addresses
 pub mod SlotWalk
 pub mod ReadWalk
 pub mod AccountWalk
+pub mod Fits
 pub mod Outcomes

@@ -11,17 +11,21 @@ use lib.ListN.{length, take, drop, length-map, length-take}
 use lib.Seq.{take-all}
 use borrow.Author.Tests.{eqb-true, lt-ltb, le-ltb, ltb-true, ltb-false}
 use Rattle.model.specs.declared.storage_memo.U256.{U256}
+use Rattle.model.specs.Numbers.{Bytes}
 use Rattle.model.specs.Refusals.{first-that-holds}
+use Rattle.model.specs.Entries.{u256-at, write-of, chunks, slot-bytes, first-slots}
 use Rattle.model.proofs.SlotLaws.{split}
+use Rattle.model.proofs.EntryLaws.{length-slot}
 use Rattle.words.specs.Parts.{placed}
 use Rattle.final_writes.specs.declared.Cap.{Cap}
 use Rattle.final_writes.specs.declared.Cap.the-variants.{Unlimited, AtMost}
 use Rattle.final_writes.specs.declared.FinalWritesAnswer.the-variants.{No, Seeded}
 use Rattle.final_writes.specs.declared.Walk.{Walk}
-use Rattle.final_writes.specs.FinalWrites.{SlotChanges, AccountChanges, LentAccount, LentLists, BalPlan, group-accounts, accounts-of, admitted-writes, admitted-reads, filtered-entries, within-cap, seed-from-accounts, sum, counts-differ, outputs-too-short, final-writes-refusal, refuse, seeded, conclude, final-writes}
-use Rattle.final_writes.specs.Lent.{read-u256, read-slot, read-account, lent-lists, cap-of, plan-of, joined, beginning-with, write-bytes, read-bytes, Outcome, outcome, lent-outcome, Answers}
+use Rattle.final_writes.specs.FinalWrites.{SlotChanges, AccountChanges, LentAccount, LentLists, BalPlan, group-accounts, accounts-of, admitted-writes, admitted-reads, filtered-entries, within-cap, seed-from-accounts, sum, counts-differ, outputs-too-short, final-writes-refusal, FinalWrites, refuse, seeded, conclude, final-writes}
+use Rattle.final_writes.specs.Lent.{read-slot, read-account, lent-lists, cap-of, plan-of, joined, beginning-with, write-bytes, lent-final-writes, Answers}
 use Rattle.final_writes.specs.Walking.{limit-of, Filled, fill, start, WalkFits, AccountsSeeded, counts-of}
-use Rattle.final_writes.proofs.Entries.{map-entries, agree, length-entries, length-read-bytes, length-write-bytes}
+use Rattle.final_writes.proofs.Entries.{map-entries, agree, length-entries, length-write-bytes}
+use Rattle.final_writes.proofs.Fits.{each-take, admitted-writes-fit, admitted-reads-fit, writes-back, reads-back}
 use Rattle.final_writes.proofs.Filling.{fill-found, fill-is}
 
 -- Caps ------------------------------------------------------------------------------------------------
@@ -81,8 +85,8 @@ module _ (accounts slots changes reads plan wo ro : List ℕ) (max-writes max-re
   abbrev lists : LentLists
   lists = lent-lists accounts slots changes reads
 
-  abbrev called : Outcome
-  called = lent-outcome the-plan lists wo ro
+  abbrev called : FinalWrites
+  called = lent-final-writes the-plan lists wo ro
 
   abbrev too-short : Bool
   too-short = outputs-too-short lists (length wo / 84) (length ro / 52)
@@ -102,32 +106,32 @@ module _ (accounts slots changes reads plan wo ro : List ℕ) (max-writes max-re
 
   -- The outcome by the two tests.
   decided : (s t : Bool) → counts-differ lists ≡ s → too-short ≡ t
-      → called ≡ outcome (conclude (cond s (some 10) (cond t (some 9) none)) (seed-from-accounts the-plan (accounts-of lists))) wo ro
-  unfolding lent-outcome final-writes final-writes-refusal first-that-holds
+      → called ≡ conclude (cond s (some 10) (cond t (some 9) none)) (seed-from-accounts the-plan (accounts-of lists))
+  unfolding lent-final-writes final-writes final-writes-refusal first-that-holds
   decided s t e f =
-      ap₂ (λ (x y : Bool). outcome (conclude (cond x (some 10) (cond y (some 9) none)) (seed-from-accounts the-plan (accounts-of lists))) wo ro) e f
+      ap₂ (λ (x y : Bool). conclude (cond x (some 10) (cond y (some 9) none)) (seed-from-accounts the-plan (accounts-of lists))) e f
 
   short-is : too-short ≡ (ltb (length wo / 84) (length slots / 40) || ltb (length ro / 52) (length reads / 32))
   unfolding outputs-too-short
   short-is =
-      ap₂ (λ (x y : ℕ). ltb (length wo / 84) x || ltb (length ro / 52) y) (length-entries read-slot 40 (length slots / 40) slots) (length-entries read-u256 32 (length reads / 32) reads)
+      ap₂ (λ (x y : ℕ). ltb (length wo / 84) x || ltb (length ro / 52) y) (length-entries read-slot 40 (length slots / 40) slots) (length-entries (u256-at 0) 32 (length reads / 32) reads)
 
-  refused : (n : ℕ) (s t : Bool) → cond s (some 10) (cond t (some 9) none) ≡ some n → counts-differ lists ≡ s → too-short ≡ t → Answers (No n) wo ro called
+  refused : (n : ℕ) (s t : Bool) → cond s (some 10) (cond t (some 9) none) ≡ some n → counts-differ lists ≡ s → too-short ≡ t → Answers (No n) wo ro called wo ro
   refused n s t k e f =
-      let o : called ≡ outcome (refuse n) wo ro = decided s t e f ∙ ap (λ (x : Option ℕ). outcome (conclude x (seed-from-accounts the-plan (accounts-of lists))) wo ro) k in
-      record { answer-is = sym (ap (λ (x : Outcome). x .answer) o); writes-are = sym (ap (λ (x : Outcome). x .writes-out) o); reads-are = sym (ap (λ (x : Outcome). x .reads-out) o) }
+      let o : called ≡ refuse n = decided s t e f ∙ ap (λ (x : Option ℕ). conclude x (seed-from-accounts the-plan (accounts-of lists))) k in
+      subst (λ (x : FinalWrites). Answers (No n) wo ro x wo ro) (sym o) (record { answer-is = refl; writes-are = refl; reads-are = refl })
 
-  pub refused-10 : counts-differ lists ≡ true → Answers (No 10) wo ro called
+  pub refused-10 : counts-differ lists ≡ true → Answers (No 10) wo ro called wo ro
   refused-10 e = refused 10 true (too-short) refl e refl
 
-  pub refused-9-writes : counts-differ lists ≡ false → length wo / 84 < length slots / 40 → Answers (No 9) wo ro called
+  pub refused-9-writes : counts-differ lists ≡ false → length wo / 84 < length slots / 40 → Answers (No 9) wo ro called wo ro
   refused-9-writes e h = refused 9 false true refl e (short-is ∙ ap (λ (x : Bool). x || ltb (length ro / 52) (length reads / 32)) (lt-ltb (length wo / 84) (length slots / 40) h))
 
-  pub refused-9-reads : counts-differ lists ≡ false → length slots / 40 ≤ length wo / 84 → length ro / 52 < length reads / 32 → Answers (No 9) wo ro called
+  pub refused-9-reads : counts-differ lists ≡ false → length slots / 40 ≤ length wo / 84 → length ro / 52 < length reads / 32 → Answers (No 9) wo ro called wo ro
   refused-9-reads e g h = refused 9 false true refl e (short-is ∙ ap₂ (λ (x y : Bool). x || y) (le-ltb (length wo / 84) (length slots / 40) g) (lt-ltb (length ro / 52) (length reads / 32) h))
 
   module _ (w : Walk) (wo' ro' : List ℕ) (alike : counts-differ lists ≡ false) (g : length slots / 40 ≤ length wo / 84) (h : length reads / 32 ≤ length ro / 52)
-      (slots-small : length slots < 18446744073709551616) (reads-small : length reads < 18446744073709551616)
+      (fa : Bytes accounts) (fs : Bytes slots) (fc : Bytes changes) (fr : Bytes reads) (slots-small : length slots < 18446744073709551616) (reads-small : length reads < 18446744073709551616)
       (s : AccountsSeeded the-plan accounts slots changes reads (limit-of max-writes) (limit-of max-reads) 0 (length accounts / 36) start wo ro w wo' ro') where
     abbrev all : List AccountChanges
     all = accounts-of lists
@@ -147,25 +151,25 @@ module _ (accounts slots changes reads plan wo ro : List ℕ) (max-writes max-re
     writes = filled-under write-bytes 84 length-write-bytes max-writes (admitted-writes the-plan all) (w .writes) wo wo' (omega (arith, found-slots)) (omega (arith, found-slots))
         (s .writes-filled ∙ ap (λ (x : List AccountChanges). fill 84 (limit-of max-writes) (map write-bytes (admitted-writes the-plan x)) (record { found = 0; out = wo })) whole)
 
-    reads-filled : FilledUnder read-bytes max-reads (admitted-reads the-plan all) (w .reads) ro ro'
-    reads-filled = filled-under read-bytes 52 length-read-bytes max-reads (admitted-reads the-plan all) (w .reads) ro ro' (omega (arith, found-reads)) (omega (arith, found-reads))
-        (s .reads-filled ∙ ap (λ (x : List AccountChanges). fill 52 (limit-of max-reads) (map read-bytes (admitted-reads the-plan x)) (record { found = 0; out = ro })) whole)
+    reads-filled : FilledUnder slot-bytes max-reads (admitted-reads the-plan all) (w .reads) ro ro'
+    reads-filled = filled-under slot-bytes 52 length-slot max-reads (admitted-reads the-plan all) (w .reads) ro ro' (omega (arith, found-reads)) (omega (arith, found-reads))
+        (s .reads-filled ∙ ap (λ (x : List AccountChanges). fill 52 (limit-of max-reads) (map slot-bytes (admitted-reads the-plan x)) (record { found = 0; out = ro })) whole)
 
     filtered : w .filtered ≡ filtered-entries the-plan all
     filtered = s .filtered-is ∙ zero-add _ ∙ ap (filtered-entries the-plan) whole
 
-    pub accepted : Answers (Seeded (counts-of w (limit-of max-writes) (limit-of max-reads))) wo' ro' called
+    pub accepted : Answers (Seeded (counts-of w (limit-of max-writes) (limit-of max-reads))) wo' ro' called wo ro
     unfolding seed-from-accounts
     accepted =
-        let o : called ≡ outcome (seeded (seed-from-accounts the-plan all)) wo ro = decided false false alike (short-is ∙ ap₂ (λ (x y : Bool). x || y) (le-ltb (length wo / 84) (length slots / 40) g) (le-ltb (length ro / 52) (length reads / 32) h)) in
+        let o : called ≡ seeded (seed-from-accounts the-plan all) = decided false false alike (short-is ∙ ap₂ (λ (x y : Bool). x || y) (le-ltb (length wo / 84) (length slots / 40) g) (le-ltb (length ro / 52) (length reads / 32) h)) in
         let kw : ℕ = within-cap (cap-of max-writes) (length (admitted-writes the-plan all)) in
         let kr : ℕ = within-cap (cap-of max-reads) (length (admitted-reads the-plan all)) in
         let capped : w .writes - min (w .writes) (limit-of max-writes) + (w .reads - min (w .reads) (limit-of max-reads)) ≡ (length (admitted-writes the-plan all) - kw) + (length (admitted-reads the-plan all) - kr) =
         omega (arith, writes .found-is, writes .within, reads-filled .found-is, reads-filled .within) in
-        record {
-          answer-is =
-              (λ i. Seeded (record { writes = writes .count-is i; reads = reads-filled .count-is i; filtered = filtered i; capped = capped i }))
-              ∙ sym (ap (λ (x : Outcome). x .answer) o);
-          writes-are = writes .out-is ∙ sym (ap (λ (x : Outcome). x .writes-out) o);
-          reads-are = reads-filled .out-is ∙ sym (ap (λ (x : Outcome). x .reads-out) o);
-        }
+        let ws : map write-of (chunks 84 (min (w .writes) (limit-of max-writes)) wo') ≡ take kw (admitted-writes the-plan all) =
+        ap₂ (λ (n : ℕ) (l : List ℕ). map write-of (chunks 84 n l)) (writes .count-is) (writes .out-is)
+        ∙ writes-back wo (each-take kw (admitted-writes-fit the-plan accounts slots changes reads fa fs fc fr)) in
+        let rs : first-slots (min (w .reads) (limit-of max-reads)) ro' ≡ take kr (admitted-reads the-plan all) =
+        ap₂ first-slots (reads-filled .count-is) (reads-filled .out-is) ∙ reads-back ro (each-take kr (admitted-reads-fit the-plan accounts slots changes reads fa fs fc fr)) in
+        subst (λ (x : FinalWrites). Answers (Seeded (counts-of w (limit-of max-writes) (limit-of max-reads))) wo' ro' x wo ro) (sym o)
+        (record { answer-is = λ i. seeded (record { writes = ws i; reads = rs i; filtered = filtered i; capped = capped i }); writes-are = writes .out-is; reads-are = reads-filled .out-is })

@@ -11,14 +11,15 @@ use lib.Seq.{take-add, drop-drop}
 use Rattle.model.specs.declared.storage_memo.Address.{Address}
 use Rattle.model.specs.declared.storage_memo.U256.{U256}
 use Rattle.words.specs.Parts.{placed}
-use Rattle.final_writes.specs.Lent.{read-u256, reads-in, read-bytes}
+use Rattle.model.specs.Entries.{slot-bytes, u256-at}
+use Rattle.final_writes.specs.Lent.{reads-in}
 use Rattle.final_writes.specs.Walking.{Filled, fill, ReadsSeeded}
 use Rattle.final_writes.proofs.Entries.{entry-at}
 use Rattle.final_writes.proofs.Filling.{fill-append}
 
 module _ (a : Address) (reads : List ℕ) (most from found : ℕ) (out : List ℕ) where
   abbrev bytes : List U256 → List (List ℕ)
-  bytes l = map read-bytes (map (λ i. record { address = a; index = i }) l)
+  bytes l = map slot-bytes (map (λ i. record { address = a; index = i }) l)
 
   abbrev before : Filled
   before = record { found = found; out = out }
@@ -29,17 +30,17 @@ module _ (a : Address) (reads : List ℕ) (most from found : ℕ) (out : List �
 
   bytes-append : (k l : List U256) → bytes k ++ bytes l ≡ bytes (k ++ l)
   bytes-append k l =
-      sym (map-append read-bytes (map (λ i. record { address = a; index = i }) k) (map (λ i. record { address = a; index = i }) l))
-      ∙ ap (map read-bytes) (sym (map-append (λ i. record { address = a; index = i }) k l))
+      sym (map-append slot-bytes (map (λ i. record { address = a; index = i }) k) (map (λ i. record { address = a; index = i }) l))
+      ∙ ap (map slot-bytes) (sym (map-append (λ i. record { address = a; index = i }) k l))
 
   pub read-seeded : (i : ℕ) (out' out'' : List ℕ) → from + i < length reads / 32 → ReadsSeeded a reads most from i found out out'
-      → out'' ≡ cond (ltb (found + i) most) (placed ((found + i) * 52) (read-bytes (record { address = a; index = read-u256 (drop ((from + i) * 32) reads) })) out') out'
+      → out'' ≡ cond (ltb (found + i) most) (placed ((found + i) * 52) (slot-bytes (record { address = a; index = u256-at 0 (drop ((from + i) * 32) reads) })) out') out'
       → ReadsSeeded a reads most from (i + 1) found out out''
   unfolding fill
   read-seeded i out' out'' h s e =
       let l : List U256 = drop from (reads-in reads) in
-      let x : U256 = read-u256 (drop ((from + i) * 32) reads) in
-      let one : take 1 (drop i l) ≡ x ∷ [] = ap (take 1) (drop-drop i from (reads-in reads) ∙ entry-at read-u256 32 (from + i) (length reads / 32) reads h) in
+      let x : U256 = u256-at 0 (drop ((from + i) * 32) reads) in
+      let one : take 1 (drop i l) ≡ x ∷ [] = ap (take 1) (drop-drop i from (reads-in reads) ∙ entry-at (u256-at 0) 32 (from + i) (length reads / 32) reads h) in
       let n : found + (i + 1) ≡ found + i + 1 = omega arith in
       ap₂ (λ (k : ℕ) (o : List ℕ). record { found = k; out = o }) n e
       ∙ ap (λ (f : Filled). fill 52 most (bytes (x ∷ [])) f) s

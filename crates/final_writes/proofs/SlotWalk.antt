@@ -18,18 +18,19 @@ use Rattle.final_writes.specs.declared.Spot.{Spot}
 use Rattle.final_writes.specs.declared.Found.{Found}
 use Rattle.final_writes.specs.declared.Found.the-variants.{At, Nothing}
 use Rattle.final_writes.specs.FinalWrites.{StorageChange, SlotChanges, LentSlot, sum, group-slots, final-change, add-write, post-states}
-use Rattle.final_writes.specs.Lent.{entries, read-u256, read-slot, read-change, slots-in, changes-in, write-bytes}
+use Rattle.model.specs.Entries.{u256-at}
+use Rattle.final_writes.specs.Lent.{entries, read-slot, read-change, slots-in, changes-in, write-bytes}
 use Rattle.final_writes.specs.Walking.{fill, slots-left, ChangesLeft, SlotsSeeded, FinalIs, found-value}
 use Rattle.words.proofs.Places.{entry-fits}
 use Rattle.final_writes.proofs.Entries.{entry-at}
 use Rattle.final_writes.proofs.Filling.{fill-more}
 
 -- The last of some entries.
-pub final-at : (n from m : ℕ) (l : List ℕ) → from + suc n ≤ m → final-change (take (suc n) (drop from (entries read-change 40 m l))) ≡ some (read-u256 (drop 8 (drop ((from + n) * 40) l)))
+pub final-at : (n from m : ℕ) (l : List ℕ) → from + suc n ≤ m → final-change (take (suc n) (drop from (entries read-change 40 m l))) ≡ some (u256-at 0 (drop 8 (drop ((from + n) * 40) l)))
 unfolding final-change
 final-at zero from m l h =
     ap (λ (x : List StorageChange). final-change (take 1 x)) (entry-at read-change 40 from m l (omega arith))
-    ∙ ap (λ (i : ℕ). some (read-u256 (drop 8 (drop (i * 40) l)))) (sym (add-zero from))
+    ∙ ap (λ (i : ℕ). some (u256-at 0 (drop 8 (drop (i * 40) l)))) (sym (add-zero from))
 final-at (suc n) from m l h =
     let es : List StorageChange = entries read-change 40 m l in
     let c : StorageChange = read-change (drop (from * 40) l) in
@@ -40,16 +41,16 @@ final-at (suc n) from m l h =
     ∙ ap (λ (x : List StorageChange). final-change (c ∷ take (suc n) x)) p
     ∙ sym (ap (λ (x : List StorageChange). final-change (take (suc n) x)) p)
     ∙ final-at n (suc from) m l (omega arith)
-    ∙ ap (λ (i : ℕ). some (read-u256 (drop 8 (drop (i * 40) l)))) e
+    ∙ ap (λ (i : ℕ). some (u256-at 0 (drop 8 (drop (i * 40) l)))) e
 
 pub final-last : (from count : ℕ) (l : List ℕ) → 0 < count → from + count ≤ length l / 40 → FinalIs l from count (At (from + count - 1))
 final-last from count l h k =
     let n : ℕ = count - 1 in
     let e : suc n ≡ count = omega arith in
     let i : from + n ≡ from + count - 1 = omega arith in
-    let v : final-change (take (suc n) (drop from (changes-in l))) ≡ some (read-u256 (drop 8 (drop ((from + n) * 40) l))) = final-at n from (length l / 40) l (omega arith) in
+    let v : final-change (take (suc n) (drop from (changes-in l))) ≡ some (u256-at 0 (drop 8 (drop ((from + n) * 40) l))) = final-at n from (length l / 40) l (omega arith) in
     record {
-      value-is = sym (ap (λ (x : ℕ). final-change (take x (drop from (changes-in l)))) (sym e) ∙ v ∙ ap (λ (x : List ℕ). some (read-u256 x)) (drop-drop 8 ((from + n) * 40) l) ∙ ap (λ (x : ℕ). some (read-u256 (drop (x * 40 + 8) l))) i);
+      value-is = sym (ap (λ (x : ℕ). final-change (take x (drop from (changes-in l)))) (sym e) ∙ v ∙ ap (λ (x : List ℕ). some (u256-at 0 x)) (drop-drop 8 ((from + n) * 40) l) ∙ ap (λ (x : ℕ). some (u256-at 0 (drop (x * 40 + 8) l))) i);
       within = entry-fits 40 (from + count - 1) (length l) (omega arith);
     }
 
@@ -162,8 +163,8 @@ module _ (a : Address) (slots changes : List ℕ) (most : ℕ) where
           (unchanged-seeded out (value ∙ ap (found-value changes) e))
 
       pub changed : (i : ℕ) (out out' : List ℕ) → r ≡ At i
-          → out' ≡ cond (ltb (p .found) most) (placed (p .found * 84) (write-bytes (record { slot = record { address = a; index = here-slot .slot }; value = read-u256 (drop (i * 40 + 8) changes) })) out) out
+          → out' ≡ cond (ltb (p .found) most) (placed (p .found * 84) (write-bytes (record { slot = record { address = a; index = here-slot .slot }; value = u256-at 0 (drop (i * 40 + 8) changes) })) out) out
           → SlotsSeeded a slots changes most 1 p out (record { slot = p .slot + 1; change = p .change + n; found = p .found + 1 }) out'
       changed i out out' e f =
           subst (λ (k : ℕ). SlotsSeeded a slots changes most 1 p out (record { slot = p .slot + 1; change = p .change + k; found = p .found + 1 }) out') (sym en)
-          (changed-seeded (read-u256 (drop (i * 40 + 8) changes)) out out' (value ∙ ap (found-value changes) e) f)
+          (changed-seeded (u256-at 0 (drop (i * 40 + 8) changes)) out out' (value ∙ ap (found-value changes) e) f)

@@ -32,7 +32,8 @@ pub record BalPlan : Type 0 where
   pub max-write-seeds : Option ℕ
   pub max-read-prefetches : Option ℕ
 
--- What is lent: for each account its address and its numbers of slots and reads; for each slot of all accounts its index and its number of changes; all changes; all reads.
+-- What is lent: for each account its address and its numbers of slots and reads; for each slot of all accounts its index and its number of changes;
+-- all changes; all reads.
 pub record LentAccount : Type 0 where
   pub address : Address
   pub slot-count : ℕ
@@ -61,12 +62,14 @@ group-slots (s ∷ ss) cs = record { slot = s .slot; changes = take (s .change-c
 unfoldable pub group-accounts : List LentAccount → List SlotChanges → List U256 → List AccountChanges
 group-accounts [] ss rs = []
 group-accounts (a ∷ l) ss rs =
-    record { address = a .address; storage-changes = take (a .slot-count) ss; storage-reads = take (a .read-count) rs } ∷ group-accounts l (drop (a .slot-count) ss) (drop (a .read-count) rs)
+    record { address = a .address; storage-changes = take (a .slot-count) ss; storage-reads = take (a .read-count) rs }
+    ∷ group-accounts l (drop (a .slot-count) ss) (drop (a .read-count) rs)
 
 abbrev pub accounts-of : LentLists → List AccountChanges
 accounts-of l = group-accounts (l .accounts) (group-slots (l .slots) (l .changes)) (l .reads)
 
--- The value of a slot's last listed change, or none. EIP-7928: a slot's value after the block is that of its change with the highest index, and changes are listed by rising index.
+-- The value of a slot's last listed change, or none. EIP-7928: a slot's value after the block is that of its change with the highest index,
+-- and changes are listed by rising index.
 unfoldable pub final-change : List StorageChange → Option U256
 final-change [] = none
 final-change (c ∷ []) = some (c .value)
@@ -95,7 +98,8 @@ admits-from (b ∷ bs) a = relevant (b ∷ bs) a
 abbrev pub admits : BalPlan → AccountChanges → Bool
 admits p a = admits-from (p .addresses) (a .address)
 
--- The writes and the reads of the admitted accounts in list order, and the number of entries (document 01's term: a changed slot or a listed read) of the others.
+-- The writes and the reads of the admitted accounts in list order, and the number of entries of the others
+-- (document 01's term: a changed slot or a listed read).
 unfoldable pub admitted-writes : BalPlan → List AccountChanges → List Write
 admitted-writes p [] = []
 admitted-writes p (a ∷ l) = cond (admits p a) (account-writes a ++ admitted-writes p l) (admitted-writes p l)

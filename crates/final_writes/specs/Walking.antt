@@ -17,7 +17,8 @@ use Rattle.final_writes.specs.declared.Spot.{Spot}
 use Rattle.final_writes.specs.declared.Walk.{Walk}
 use Rattle.final_writes.specs.declared.SeedCounts.{SeedCounts}
 use Rattle.final_writes.specs.FinalWrites.{SlotChanges, AccountChanges, BalPlan, sum, group-slots, group-accounts, post-states, final-change, admitted-writes, admitted-reads, filtered-entries}
-use Rattle.final_writes.specs.Lent.{entries, read-u256, accounts-in, slots-in, changes-in, reads-in, write-bytes, read-bytes}
+use Rattle.model.specs.Entries.{slot-bytes, u256-at}
+use Rattle.final_writes.specs.Lent.{entries, accounts-in, slots-in, changes-in, reads-in, write-bytes}
 
 -- The largest number of entries that a cap lets through: no list has as many as 2^64 − 1.
 abbrev pub limit-of : Cap → ℕ
@@ -40,7 +41,7 @@ fill w most (b ∷ bs) f = fill w most bs (fill-one w most b f)
 -- The value of the change that was found, if any.
 abbrev pub found-value : List ℕ → Found → Option U256
 found-value changes Nothing = none
-found-value changes (At i) = some (read-u256 (drop (i * 40 + 8) changes))
+found-value changes (At i) = some (u256-at 0 (drop (i * 40 + 8) changes))
 
 -- The change that was found is one of the list.
 abbrev pub found-within : List ℕ → Found → Type 0
@@ -73,12 +74,14 @@ pub record SlotsSeeded (a : Address) (slots changes : List ℕ) (most n : ℕ) (
   pub left-is : slots-left slots changes (q .slot) (q .change) ≡ drop n (slots-left slots changes (p .slot) (p .change))
   pub changes-left : ChangesLeft slots changes (q .slot) (q .change)
   pub few-found : q .found ≤ p .found + n
-  pub filled : record { found = q .found; out = out' } ≡ fill 84 most (map write-bytes (post-states a (take n (slots-left slots changes (p .slot) (p .change))))) (record { found = p .found; out = out })
+  pub filled : record { found = q .found; out = out' }
+      ≡ fill 84 most (map write-bytes (post-states a (take n (slots-left slots changes (p .slot) (p .change))))) (record { found = p .found; out = out })
 
 -- The next n reads were walked, all of one address: they are found and put.
 abbrev pub ReadsSeeded : Address → List ℕ → ℕ → ℕ → ℕ → ℕ → List ℕ → List ℕ → Type 0
 ReadsSeeded a reads most from n found out out' =
-    record { found = found + n; out = out' } ≡ fill 52 most (map read-bytes (map (λ i. record { address = a; index = i }) (take n (drop from (reads-in reads))))) (record { found = found; out = out })
+    record { found = found + n; out = out' }
+    ≡ fill 52 most (map slot-bytes (map (λ i. record { address = a; index = i }) (take n (drop from (reads-in reads))))) (record { found = found; out = out })
 
 -- Where the walk over accounts begins.
 abbrev pub start : Walk
@@ -99,11 +102,16 @@ pub record WalkFits (accounts slots changes reads : List ℕ) (i : ℕ) (w : Wal
   pub few-filtered : w .filtered ≤ w .slot + w .read
 
 -- From walk v at account i to walk w the next n accounts were walked under a plan.
-pub record AccountsSeeded (p : BalPlan) (accounts slots changes reads : List ℕ) (max-writes max-reads i n : ℕ) (v : Walk) (wo ro : List ℕ) (w : Walk) (wo' ro' : List ℕ) : Type 0 where
+pub record AccountsSeeded (p : BalPlan) (accounts slots changes reads : List ℕ) (max-writes max-reads i n : ℕ)
+    (v : Walk) (wo ro : List ℕ) (w : Walk) (wo' ro' : List ℕ) : Type 0 where
   pub left-is : accounts-left accounts slots changes reads (i + n) w ≡ drop n (accounts-left accounts slots changes reads i v)
   pub fits : WalkFits accounts slots changes reads (i + n) w
-  pub writes-filled : record { found = w .writes; out = wo' } ≡ fill 84 max-writes (map write-bytes (admitted-writes p (take n (accounts-left accounts slots changes reads i v)))) (record { found = v .writes; out = wo })
-  pub reads-filled : record { found = w .reads; out = ro' } ≡ fill 52 max-reads (map read-bytes (admitted-reads p (take n (accounts-left accounts slots changes reads i v)))) (record { found = v .reads; out = ro })
+  pub writes-filled : record { found = w .writes; out = wo' }
+      ≡ fill 84 max-writes (map write-bytes (admitted-writes p (take n (accounts-left accounts slots changes reads i v))))
+      (record { found = v .writes; out = wo })
+  pub reads-filled : record { found = w .reads; out = ro' }
+      ≡ fill 52 max-reads (map slot-bytes (admitted-reads p (take n (accounts-left accounts slots changes reads i v))))
+      (record { found = v .reads; out = ro })
   pub filtered-is : w .filtered ≡ v .filtered + filtered-entries p (take n (accounts-left accounts slots changes reads i v))
 
 -- The counts of the seed, of the entries found and the limits.

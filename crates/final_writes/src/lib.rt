@@ -1,4 +1,4 @@
-// Final writes (bal_prefetch.rs): what a block access list, lent as flat lists, gives under a plan.
+// Final writes (bal_prefetch.rs): what a block access list, lent as flat lists, gives under a plan. docs/REFERENCE.md describes it.
 ghost use mathlib.Core.Path.{_≡_};
 ghost use mathlib.Core.Bool.{true, false, not};
 ghost use mathlib.Core.List.{List, _++_};
@@ -9,7 +9,8 @@ ghost use Rattle.model.specs.Slots.{address-eqb};
 ghost use Rattle.words.specs.Parts.{part, placed};
 ghost use Rattle.final_writes.specs.FinalWrites.{BalPlan, sum, counts-differ, admits-from};
 ghost use Rattle.final_writes.specs.Eip7928.{FinalIsHighest};
-ghost use Rattle.final_writes.specs.Lent.{all-entries, word, read-address, lent-lists, addresses-in, plan-of, lent-outcome, Answers};
+ghost use Rattle.model.specs.Entries.{address-of, number-at};
+ghost use Rattle.final_writes.specs.Lent.{all-entries, lent-lists, addresses-in, plan-of, lent-final-writes, Answers};
 ghost use Rattle.final_writes.specs.Walking.{limit-of, FinalIs, SlotsRoom, SlotsSeeded, ReadsSeeded, start, WalkFits, AccountsSeeded, counts-of};
 
 // A cap of the plan.
@@ -75,7 +76,7 @@ fn lesser(a: usize, b: usize) -> usize
 // Whether the counts at place `at` of the entries of `width` bytes sum to `total`.
 fn counts_sum(list: &[u8], width: usize, at: usize, total: usize) -> bool
     requires { ⌜ at + 8 ≤ width ⌝ }
-    ensures { λ r. ⌜ r ≡ eqb (sum (all-entries (word at) width (now (list .entry)))) total ⌝ }
+    ensures { λ r. ⌜ r ≡ eqb (sum (all-entries (number-at at 8) width (now (list .entry)))) total ⌝ }
 {
     let n = list.len() / width;
     let mut left = total;
@@ -107,7 +108,7 @@ fn counts_agree(accounts: &[u8], slots: &[u8], changes: &[u8], reads: &[u8]) -> 
 // Whether the addresses at two places are the same, by the eight bytes from their first, fifth and thirteenth on.
 fn same_address(a: &[u8], i: usize, b: &[u8], j: usize) -> bool
     requires { ⌜ (i + 20 ≤ length (now a)) × (j + 20 ≤ length (now b)) ⌝ }
-    ensures { λ r. ⌜ r ≡ address-eqb (read-address (drop i (now (a .entry)))) (read-address (drop j (now (b .entry)))) ⌝ }
+    ensures { λ r. ⌜ r ≡ address-eqb (address-of (drop i (now (a .entry)))) (address-of (drop j (now (b .entry)))) ⌝ }
 {
     if words::read_u64(a, i) != words::read_u64(b, j) {
         return false;
@@ -121,7 +122,7 @@ fn same_address(a: &[u8], i: usize, b: &[u8], j: usize) -> bool
 // Whether the plan admits the account at place `at`: it names no address, or that one.
 fn admits(plan_addresses: &[u8], accounts: &[u8], at: usize) -> bool
     requires { ⌜ at + 20 ≤ length (now accounts) ⌝ }
-    ensures { λ r. ⌜ r ≡ admits-from (addresses-in (now («plan_addresses» .entry))) (read-address (drop at (now (accounts .entry)))) ⌝ }
+    ensures { λ r. ⌜ r ≡ admits-from (addresses-in (now («plan_addresses» .entry))) (address-of (drop at (now (accounts .entry)))) ⌝ }
 {
     let n = plan_addresses.len() / 20;
     if n == 0 {
@@ -193,7 +194,7 @@ fn seed_slot(
     out: &mut [u8],
 ) -> Spot
     requires { ⌜ (at + 20 ≤ length (now accounts)) × SlotsRoom (now slots) (now changes) 1 from (length (now out)) ⌝ }
-    ensures { λ r. ⌜ SlotsSeeded (read-address (drop at (now (accounts .entry)))) (now (slots .entry)) (now (changes .entry)) most 1 from (now (out .entry)) r (now (out .exit)) ⌝ }
+    ensures { λ r. ⌜ SlotsSeeded (address-of (drop at (now (accounts .entry)))) (now (slots .entry)) (now (changes .entry)) most 1 from (now (out .entry)) r (now (out .exit)) ⌝ }
 {
     let slot = from.slot;
     let change = from.change;
@@ -237,7 +238,7 @@ fn seed_slots(
     out: &mut [u8],
 ) -> Spot
     requires { ⌜ (at + 20 ≤ length (now accounts)) × SlotsRoom (now slots) (now changes) count from (length (now out)) ⌝ }
-    ensures { λ r. ⌜ SlotsSeeded (read-address (drop at (now (accounts .entry)))) (now (slots .entry)) (now (changes .entry)) most count from (now (out .entry)) r (now (out .exit)) ⌝ }
+    ensures { λ r. ⌜ SlotsSeeded (address-of (drop at (now (accounts .entry)))) (now (slots .entry)) (now (changes .entry)) most count from (now (out .entry)) r (now (out .exit)) ⌝ }
 {
     let mut spot = from;
     let mut i = 0;
@@ -260,7 +261,7 @@ fn seed_reads(
     out: &mut [u8],
 )
     requires { ⌜ (at + 20 ≤ length (now accounts)) × (from + count ≤ length (now reads) / 32) × (found ≤ from) × (length (now reads) / 32 * 52 ≤ length (now out)) ⌝ }
-    ensures { λ _. ⌜ ReadsSeeded (read-address (drop at (now (accounts .entry)))) (now (reads .entry)) most from count found (now (out .entry)) (now (out .exit)) ⌝ }
+    ensures { λ _. ⌜ ReadsSeeded (address-of (drop at (now (accounts .entry)))) (now (reads .entry)) most from count found (now (out .entry)) (now (out .exit)) ⌝ }
 {
     let mut i = 0;
     while i < count {
@@ -285,7 +286,7 @@ fn admit_account(
     reads_out: &mut [u8],
 ) -> Walk
     requires { ⌜ (i < length (now accounts) / 36) × WalkFits (now accounts) (now slots) (now changes) (now reads) i w × (length (now slots) / 40 * 84 ≤ length (now «writes_out»)) × (length (now reads) / 32 * 52 ≤ length (now «reads_out»)) ⌝ }
-    ensures { λ r. ⌜ ((p : BalPlan) → admits-from (p .addresses) (read-address (drop (i * 36) (now (accounts .entry)))) ≡ true → AccountsSeeded p (now (accounts .entry)) (now (slots .entry)) (now (changes .entry)) (now (reads .entry)) «max_writes» «max_reads» i 1 w (now («writes_out» .entry)) (now («reads_out» .entry)) r (now («writes_out» .exit)) (now («reads_out» .exit))) ⌝ }
+    ensures { λ r. ⌜ ((p : BalPlan) → admits-from (p .addresses) (address-of (drop (i * 36) (now (accounts .entry)))) ≡ true → AccountsSeeded p (now (accounts .entry)) (now (slots .entry)) (now (changes .entry)) (now (reads .entry)) «max_writes» «max_reads» i 1 w (now («writes_out» .entry)) (now («reads_out» .entry)) r (now («writes_out» .exit)) (now («reads_out» .exit))) ⌝ }
 {
     let at = i * 36;
     let slot_count = words::read_u64(accounts, at + 20) as usize;
@@ -336,7 +337,7 @@ fn filter_account(
     writes_out: &mut [u8],
 ) -> Walk
     requires { ⌜ (i < length (now accounts) / 36) × WalkFits (now accounts) (now slots) (now changes) (now reads) i w × (length (now slots) / 40 * 84 ≤ length (now «writes_out»)) ⌝ }
-    ensures { λ r. ⌜ ((p : BalPlan) (max-writes max-reads : ℕ) (ro : List ℕ) → admits-from (p .addresses) (read-address (drop (i * 36) (now (accounts .entry)))) ≡ false → AccountsSeeded p (now (accounts .entry)) (now (slots .entry)) (now (changes .entry)) (now (reads .entry)) max-writes max-reads i 1 w (now («writes_out» .entry)) ro r (now («writes_out» .exit)) ro) ⌝ }
+    ensures { λ r. ⌜ ((p : BalPlan) (max-writes max-reads : ℕ) (ro : List ℕ) → admits-from (p .addresses) (address-of (drop (i * 36) (now (accounts .entry)))) ≡ false → AccountsSeeded p (now (accounts .entry)) (now (slots .entry)) (now (changes .entry)) (now (reads .entry)) max-writes max-reads i 1 w (now («writes_out» .entry)) ro r (now («writes_out» .exit)) ro) ⌝ }
 {
     let at = i * 36;
     let slot_count = words::read_u64(accounts, at + 20) as usize;
@@ -472,7 +473,7 @@ pub fn final_writes(
     writes_out: &mut [u8],
     reads_out: &mut [u8],
 ) -> FinalWritesAnswer
-    ensures { λ r. ⌜ Answers r (now («writes_out» .exit)) (now («reads_out» .exit)) (lent-outcome (plan-of (now («plan_addresses» .entry)) «max_writes» «max_reads») (lent-lists (now (accounts .entry)) (now (slots .entry)) (now (changes .entry)) (now (reads .entry))) (now («writes_out» .entry)) (now («reads_out» .entry))) ⌝ }
+    ensures { λ r. ⌜ Answers r (now («writes_out» .exit)) (now («reads_out» .exit)) (lent-final-writes (plan-of (now («plan_addresses» .entry)) «max_writes» «max_reads») (lent-lists (now (accounts .entry)) (now (slots .entry)) (now (changes .entry)) (now (reads .entry))) (now («writes_out» .entry)) (now («reads_out» .entry))) (now («writes_out» .entry)) (now («reads_out» .entry)) ⌝ }
 {
     if !counts_agree(accounts, slots, changes, reads) {
         return FinalWritesAnswer::No(10);

@@ -10,25 +10,30 @@ use Rattle.model.specs.declared.storage_memo.ReadAnchor.{ReadAnchor}
 use Rattle.model.specs.declared.storage_memo.Address.{Address}
 use Rattle.model.specs.Layers.{Layer, find, held-value, slots, all-slots, held-count, live-count}
 use Rattle.model.specs.declared.read_hub.CarryOutcome.the-variants.{Carried, Cold, AlreadyCurrent}
-use Rattle.model.specs.Advance.{CompactionReport, Compaction, no-compaction, compact-base, seal, void-base, Write}
-use Rattle.model.specs.Entries.{addresses-of, writes-of}
-use Rattle.model.specs.Store.{Config, Generation, Store, chain, Performed, after-writes, new-generation, cold-advance, carry, already-current}
+use Rattle.model.specs.Advance.{no-writes, CompactionReport, Compaction, no-compaction, compact-base, seal, void-base, Write}
+use Rattle.model.specs.Entries.{chunks, addresses-of, writes-of}
+use Rattle.model.specs.Store.{Config, Generation, Store, chain, Performed, after-writes, new-generation, cold-advance, carry, already-current, advanced}
+use Rattle.model.specs.Refusals.{ok}
 use Rattle.image.specs.WellFormed.{anchor-fits}
 use Rattle.image.specs.Image.{overlay}
 use Rattle.image.specs.Lent.{store-of, generation-of, IsStore, Installed}
 use Rattle.counts.specs.declared.Counts.{Counts}
 use Rattle.seal.specs.declared.CompactionCounts.{CompactionCounts}
-use Rattle.seal.specs.Sealed.{begun-on, compacted, report-of, Sealed}
+use Rattle.seal.specs.Sealed.{begun-on, compacted, Sealed}
+use Rattle.seal.specs.Report.{report-of}
 use Rattle.seal.proofs.Decoded.{Begun, cold-begun, carried-begun}
 use Rattle.seed.specs.Writes.{seeded-over}
 use Rattle.known_advance.specs.declared.Advanced.{Advanced}
 use Rattle.known_advance.specs.declared.Advanced.the-variants.{Done}
-use Rattle.known_advance.specs.Reports.{CountedAs, AdvancedAs, ended, writing, Ready, advanced-by}
+use Rattle.known_advance.specs.Reports.{AdvancedAs, advanced-answer}
+use Rattle.known_advance.specs.Inner.{CountedAs, ended, writing, Ready}
 
 -- The installed anchor's.
 pub current-is : (b : List ℕ) (c : Counts) → CountedAs c (store-of b .config .retention) (generation-of b)
-    → Done (record { outcome = AlreadyCurrent; writes = record { applied = 0; overwritten = 0; skipped = 0 }; held = c .held; live = c .live; compaction = record { merged = 0; left = 0; dropped = 0 } }) ≡ advanced-by (already-current (store-of b .config) (generation-of b))
-current-is b c k = λ i. Done (record { outcome = AlreadyCurrent; writes = record { applied = 0; overwritten = 0; skipped = 0 }; held = k .held-is i; live = k .live-is i; compaction = record { merged = 0; left = 0; dropped = 0 } })
+    → (out : List ℕ) → advanced-answer (Done (record { outcome = AlreadyCurrent; writes = record { applied = 0; overwritten = 0; skipped = 0 }; held = c .held; live = c .live; compaction = record { merged = 0; left = 0; dropped = 0 } })) out
+    ≡ ok (already-current (store-of b .config) (generation-of b))
+unfolding chunks
+current-is b c k out = λ i. ok (advanced (record { outcome = AlreadyCurrent; writes = no-writes; held = k .held-is i; live = k .live-is i; compaction = no-compaction }))
 
 -- A store begun is ready for the writes.
 begun-ready : (w s : List ℕ) (child : ReadAnchor) (base : List Layer) → IsStore s → Begun w (store-of s .config) child base → Ready w s

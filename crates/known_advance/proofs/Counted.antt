@@ -23,7 +23,7 @@ use Rattle.counts.specs.Counts.{held-in, live-in}
 use Rattle.counts.proofs.LayerCounts as layer-counts
 use Rattle.seal.proofs.Kept.{records-rest}
 use Rattle.seal.proofs.Folded.{bytes-in, length-in, two-layers}
-use Rattle.known_advance.specs.Reports.{CountedAs}
+use Rattle.known_advance.specs.Inner.{CountedAs}
 
 -- The part from the records on, as it is lent.
 abbrev area : List ℕ → List ℕ

@@ -23,7 +23,8 @@ use Rattle.image.specs.Lent.{store-of, IsStore}
 use Rattle.image.proofs.Lent.{store-in}
 use Rattle.known_advance.specs.declared.Advanced.{Advanced}
 use Rattle.known_advance.specs.declared.Advanced.the-variants.{No}
-use Rattle.known_advance.specs.Reports.{AdvancedAs, too-many, ended, advance-call}
+use Rattle.known_advance.specs.Reports.{AdvancedAs, advance-call}
+use Rattle.known_advance.specs.Inner.{too-many, ended}
 use Rattle.known_advance.proofs.Steps.{step-refused, step-ended}
 
 -- The number of writes.

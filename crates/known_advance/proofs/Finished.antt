@@ -13,9 +13,10 @@ use Rattle.model.specs.declared.read_hub.CarryOutcome.{CarryOutcome}
 use Rattle.model.specs.Numbers.{Bytes, num}
 use Rattle.model.specs.Layers.{Layer, record-count, held-count, live-count}
 use Rattle.model.specs.Advance.{SeededTop, seed-final-writes}
-use Rattle.model.specs.Entries.{addresses-of, writes-of, with-slots}
-use Rattle.model.specs.Store.{Config, Generation, Store, chain, Performed, new-generation, with-top}
+use Rattle.model.specs.Entries.{addresses-of, writes-of, first-slots, with-slots}
+use Rattle.model.specs.Store.{Config, Generation, Store, chain, Performed, new-generation, with-top, advanced}
 use Rattle.model.specs.Refusals.{refuse, ok}
+use Rattle.model.proofs.EntryLaws.{SlotFits, Each, slots-back}
 use Rattle.words.specs.Parts.{part, placed}
 use Rattle.image.specs.Image.{image, decode, overlay, BytesResult}
 use Rattle.image.specs.Lent.{store-of, generation-of, IsStore, Installed}
@@ -23,15 +24,17 @@ use Rattle.image.proofs.ReadBack.{decode-some, length-image, image-reads-back}
 use Rattle.image.proofs.Lent.{store-in}
 use Rattle.counts.specs.declared.Counts.{Counts}
 use Rattle.seal.specs.declared.CompactionCounts.{CompactionCounts}
-use Rattle.seal.specs.Sealed.{report-of}
+use Rattle.seal.specs.Report.{report-of}
 use Rattle.seed.specs.declared.WriteCounts.{WriteCounts}
 use Rattle.seed.specs.declared.Seeded.{Seeded}
 use Rattle.seed.specs.declared.Seeded.the-variants.{Full as No-room, Done as Counted}
 use Rattle.seed.specs.Writes.{has-room-for, seeded-in, SeededTo, SeededAs}
 use Rattle.known_advance.specs.declared.Advanced.the-variants.{No, Done}
 use Rattle.known_advance.specs.Outputs.{applied-in}
-use Rattle.known_advance.specs.Reports.{CountedAs, CountsBefore, counts-of-writes, AdvancedAs, too-many, ended, writing, Ready}
+use Rattle.known_advance.specs.Reports.{AdvancedAs}
+use Rattle.known_advance.specs.Inner.{CountedAs, CountsBefore, too-many, ended, writing, Ready}
 use Rattle.known_advance.proofs.AppliedLaws.{applied-is, none-applied}
+use Rattle.known_advance.proofs.Outputs.{applied-fit}
 
 -- What the answer of the writes says.
 pub seeded-full : (r : Seeded) (after b addresses writes : List ℕ) → SeededAs r after b addresses writes → r ≡ No-room → has-room-for (seeded-in b (addresses-of addresses) (writes-of writes) .top) b ≡ false
@@ -125,17 +128,21 @@ module _ (s w addresses writes out : List ℕ) (outcome : CarryOutcome) (c : Com
       counts-are = still cc k;
     }
 
-    pub finish-done : (cap : ℕ) (s' out' : List ℕ) (cc : Counts) → cap ≡ num (part 8 8 s) → s' ≡ placed 0 (take (6848 + 104 * cap) w') s → out' ≡ with-slots (applied-in (generation-of w' .top) (writes-of writes)) out
+    pub finish-done : (cap : ℕ) (s' out' : List ℕ) (cc : Counts) → Bytes writes → cap ≡ num (part 8 8 s) → s' ≡ placed 0 (take (6848 + 104 * cap) w') s → out' ≡ with-slots (applied-in (generation-of w' .top) (writes-of writes)) out
         → CountedAs cc (store-of w' .config .retention) (generation-of w')
         → AdvancedAs (Done (record { outcome = outcome; writes = counts; held = cc .held; live = cc .live; compaction = c })) s' out' (ended cfg p s) out
-    finish-done cap s' out' cc e q o k =
+    finish-done cap s' out' cc fw e q o k =
         let held : cc .held ≡ held-count (z .top ∷ base) = k .held-is ∙ ap (λ (g : Generation). held-count (chain g)) new-is in
         let live : cc .live ≡ live-count (store-of w .config .retention) (generation-of w .anchor .number) (z .top ∷ base) =
         k .live-is ∙ ap₂ (λ (x : Config) (g : Generation). live-count (x .retention) (g .anchor .number) (chain g)) (t .config-is) new-is in
-        let ws : counts ≡ counts-of-writes (z .applied-writes) = λ i. record { applied = t .counts-are .applied-is i; overwritten = t .counts-are .overwritten-is i; skipped = t .counts-are .skipped-is i } in
+        let puts : out' ≡ with-slots (z .applied-writes .applied) out = o ∙ ap (λ (g : Generation). with-slots (applied-in (g .top) (writes-of writes)) out) new-is ∙ ap (λ (ss : List Slot). with-slots ss out) (sym applied) in
+        let fit : Each SlotFits (z .applied-writes .applied) = subst (λ (ss : List Slot). Each SlotFits ss) (sym applied) (applied-fit (z .top) writes fw) in
+        let ss : first-slots (counts .applied) out' ≡ z .applied-writes .applied = ap₂ first-slots (t .counts-are .applied-is) puts ∙ slots-back out fit in
+        let over = t .counts-are .overwritten-is in
+        let left = t .counts-are .skipped-is in
         subst (λ (x : BytesResult). AdvancedAs (Done (record { outcome = outcome; writes = counts; held = cc .held; live = cc .live; compaction = c })) s' out' x out) (sym (ap ended-by room))
         (record {
-          answer-is = λ i. Done (record { outcome = outcome; writes = ws i; held = held i; live = live i; compaction = c });
+          answer-is = λ i. ok (advanced (record { outcome = outcome; writes = record { applied = ss i; overwritten = over i; skipped = left i }; held = held i; live = live i; compaction = report-of c }));
           bytes-is = copied cap s' e q;
-          output-is = o ∙ ap (λ (g : Generation). with-slots (applied-in (g .top) (writes-of writes)) out) new-is ∙ ap (λ (ss : List Slot). with-slots ss out) (sym applied);
+          output-is = puts;
         })

@@ -1,19 +1,20 @@
 -- The output of an advance, half way: the slots that are still to be put, at their place. Assumes nothing.
-use Prim.Native.Nat.{ℕ, suc, _+_, _*_, _/_, _≤_, _<_}
+use Prim.Native.Nat.{ℕ, zero, suc, _+_, _*_, _/_, _≤_, _<_}
 use mathlib.Core.Path.{_≡_, refl, sym, ap, ap₂, subst, _∙_}
 use mathlib.Core.Bool.{Bool, true, false, cond}
-use mathlib.Core.List.{List, [], _∷_, _++_, append-assoc, append-nil}
+use mathlib.Core.List.{List, [], _∷_, _++_, map, append-assoc, append-nil}
 use mathlib.Core.Option.{Option, some, none}
 use native.Mathlib.Numerals.{add-one}
 use native.Mathlib.Omega.{arith}
 use lib.ListN.{length, take, drop, length-append, length-drop, take-append-drop}
-use lib.Seq.{getD-drop, take-add, drop-drop, take-at, drop-at, length-take-le}
+use lib.Seq.{take-add, drop-drop, take-at, drop-at, length-take-le}
 use Rattle.model.specs.declared.delta_snapshot.Slot.{Slot}
 use Rattle.model.specs.Numbers.{be, num, Bytes}
 use Rattle.model.specs.Layers.{Content, Layer, find, is-some}
 use Rattle.model.specs.Advance.{Write}
-use Rattle.model.specs.Entries.{number-at, slot-of, write-of, writes-of, slot-bytes, slots-bytes, with-slots}
-use Rattle.model.proofs.NumberLaws.{length-be, be-num}
+use Rattle.model.specs.Entries.{number-at, slot-of, write-of, chunks, writes-of, slot-bytes, slots-bytes, with-slots}
+use Rattle.model.proofs.NumberLaws.{be-num}
+use Rattle.model.proofs.EntryLaws.{bytes-drop, bytes-take, SlotFits, slot-of-fits, length-slot, Each, each-none, each-more}
 use Rattle.model.proofs.SlotLaws.{split}
 use Rattle.words.specs.Parts.{part, placed}
 use Rattle.layers.specs.declared.Entry.{Entry}
@@ -27,16 +28,9 @@ found-by e x o p q = ap (λ (y : Entry). is-some (entry-content y)) (sym q) ∙ 
 
 -- A slot's bytes ----------------------------------------------------------------------------------------
 
-pub length-slot : (s : Slot) → length (slot-bytes s) ≡ 52
-unfolding slot-bytes
-length-slot s = simp (length-append, length-be)
-
 module _ (d : List ℕ) (f : Bytes d) (h : 52 ≤ length d) where
-  bytes-from : (k : ℕ) → Bytes (drop k d)
-  bytes-from k = λ j. rw getD-drop (f (k + j))
-
   field : (o n : ℕ) → o + n ≤ 52 → be n (number-at o n d) ≡ take n (drop o d)
-  field o n g = be-num (drop o d) (bytes-from o) n (omega (arith, length-drop o d))
+  field o n g = be-num (drop o d) (bytes-drop o d f) n (omega (arith, length-drop o d))
 
   slot-is : slot-bytes (slot-of d) ≡ take 52 d
   unfolding slot-bytes
@@ -45,7 +39,21 @@ module _ (d : List ℕ) (f : Bytes d) (h : 52 ≤ length d) where
       ∙ sym (take-add 44 8 d)
 
 pub slot-at : (at : ℕ) (w : List ℕ) → Bytes w → at + 52 ≤ length w → part at 52 w ≡ slot-bytes (slot-of (drop at w))
-slot-at at w f h = sym (slot-is (drop at w) (λ j. rw getD-drop (f (at + j))) (omega (arith, length-drop at w)))
+slot-at at w f h = sym (slot-is (drop at w) (bytes-drop at w f) (omega (arith, length-drop at w)))
+
+-- The slots of writes read from bytes fit.
+applied-more : (x : Bool) (s : Slot) {ss : List Slot} → SlotFits s → Each SlotFits ss → Each SlotFits (cond x (s ∷ ss) ss)
+applied-more true s f fs = each-more f fs
+applied-more false s f fs = fs
+
+applied-from : (t : Layer) (n : ℕ) (b : List ℕ) → Bytes b → Each SlotFits (applied-in t (map write-of (chunks 84 n b)))
+unfolding applied-in chunks
+applied-from t zero b f = each-none
+applied-from t (suc n) b f = applied-more (is-some (find (slot-of (take 84 b)) t)) _ (slot-of-fits (take 84 b) (bytes-take 84 b f)) (applied-from t n (drop 84 b) (bytes-drop 84 b f))
+
+pub applied-fit : (t : Layer) (b : List ℕ) → Bytes b → Each SlotFits (applied-in t (writes-of b))
+unfolding writes-of
+applied-fit t b f = applied-from t (length b / 84) b f
 
 -- The output half way -----------------------------------------------------------------------------------
 

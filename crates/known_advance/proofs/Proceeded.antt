@@ -25,7 +25,8 @@ use Rattle.known.proofs.Guards.{Here}
 use Rattle.known.proofs.Said.{Other}
 use Rattle.seal.specs.Sealed.{anchor-of, installed-anchor}
 use Rattle.known_advance.specs.declared.Advanced.{Advanced}
-use Rattle.known_advance.specs.Reports.{AdvancedAs, ended, advanced-by}
+use Rattle.known_advance.specs.Reports.{AdvancedAs, advanced-answer}
+use Rattle.known_advance.specs.Inner.{ended}
 use Rattle.known_advance.proofs.Performs.{performs-current, performs-carry, performs-cold, performs-first, carries-none, carries-next}
 
 -- The store laid over its own bytes changes none.
@@ -37,7 +38,7 @@ module _ (s : List ℕ) (child : ReadAnchor) (h : U256) (k : ℕ) (addresses wri
   does o = perform (store-of s .config) o (advance child h k (addresses-of addresses) (writes-of writes))
 
   -- To the installed anchor.
-  pub proceed-current : (r : Advanced) (out : List ℕ) → Bytes s → Here s child → r ≡ advanced-by (already-current (store-of s .config) (generation-of s))
+  pub proceed-current : (r : Advanced) (out : List ℕ) → Bytes s → Here s child → advanced-answer r out ≡ ok (already-current (store-of s .config) (generation-of s))
       → AdvancedAs r s out (ended (store-of s .config) (does (store-of s .installed)) s) out
   unfolding slots-bytes
   proceed-current r out f e q =

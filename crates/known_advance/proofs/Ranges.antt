@@ -1,4 +1,4 @@
--- The words of an anchor that is passed by value fit their fields. Assumes nothing.
+-- The words of a 32-byte number and of an anchor that are passed by value fit their fields. Assumes nothing.
 use Prim.Native.Nat.{ℕ, _<_, _^_}
 use mathlib.Core.Path.{_≡_, refl}
 use mathlib.Core.Bool.{true}
@@ -16,10 +16,10 @@ use Rattle.model.specs.declared.storage_memo.ReadAnchor.{ReadAnchor}
 use Rattle.model.proofs.SlotLaws.{and-intro}
 use Rattle.image.specs.WellFormed.{fits-64, u256-fits, hash-fits, anchor-fits}
 
-word-range : {x : ℕ} → x < 2 ^ 64 → fits-64 x ≡ true
+pub word-range : {x : ℕ} → x < 2 ^ 64 → fits-64 x ≡ true
 word-range {x} h = lt-ltb x (2 ^ 64) h
 
-u256-range : (x : U256) (vs : List Val) → Is u256.the-row x vs → u256-fits x ≡ true
+pub u256-range : (x : U256) (vs : List Val) → Is u256.the-row x vs → u256-fits x ≡ true
 u256-range x vs g =
     let w = g .1 .1 in
     and-intro _ _ (word-range (w .0 .1)) (and-intro _ _ (word-range (w .1 .0 .1)) (and-intro _ _ (word-range (w .1 .1 .0 .1)) (word-range (w .1 .1 .1 .0 .1))))

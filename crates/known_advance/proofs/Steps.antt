@@ -14,7 +14,7 @@ use Rattle.model.specs.Store.{Config, Generation, StoreCall, advance, on-store,
 use Rattle.model.specs.Refusals.{Lent, work-size, refuse, ok, StepResult, conclude, step, conditions, first-that-holds, refusal, not-a-store, capacity-out-of-range, depth-out-of-range, skip-with-writes, skip-out-of-range, answer-names-twice, lent-too-short, nothing-installed, another-anchor, answered-not-taken, reads-exhausted, queue-full, over-capacity, output-short-of-queue}
 use Rattle.image.specs.Image.{decode, overlay, bytes-after, BytesCall, BytesResult, bytes-step}
 use Rattle.known.proofs.Turned.{memory-of}
-use Rattle.known_advance.specs.Reports.{too-many, ended}
+use Rattle.known_advance.specs.Inner.{too-many, ended}
 
 module _ (cfg : Config) (o : Option Generation) (child : ReadAnchor) (h : U256) (k : ℕ) (relevance : List Address) (ws : List Write) where
   abbrev call : StoreCall

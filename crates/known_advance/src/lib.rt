@@ -11,21 +11,23 @@ use seal::CompactionCounts;
 use seed::Seeded;
 use seed::WriteCounts;
 ghost use mathlib.Core.Path.{_≡_};
-ghost use Prim.Native.Nat.{suc, _+_, _*_, _/_, _≤_};
+ghost use mathlib.Core.List.{List};
+ghost use Prim.Native.Nat.{ℕ, suc, _+_, _*_, _/_, _≤_};
 ghost use lib.ListN.{length, take};
 ghost use Rattle.model.specs.Layers.{find, is-some};
 ghost use Rattle.model.specs.Entries.{addresses-of, writes-of, with-slots};
 ghost use Rattle.model.specs.Store as calls;
 ghost use Rattle.model.specs.Store.{cold-advance, carry, already-current, perform};
-ghost use Rattle.model.specs.Refusals.{store-size};
+ghost use Rattle.model.specs.Refusals.{store-size, ok};
 ghost use Rattle.image.specs.WellFormed.{anchor-fits};
 ghost use mathlib.Core.Bool.{true};
 ghost use Rattle.words.specs.Parts.{placed};
 ghost use Rattle.image.specs.Image.{bytes-step};
 ghost use Rattle.image.specs.Lent.{store-of, generation-of, IsStore, Installed};
-ghost use Rattle.seal.specs.Sealed.{report-of};
+ghost use Rattle.seal.specs.Report.{report-of};
 ghost use Rattle.known_advance.specs.Outputs.{PutOne, applied-in};
-ghost use Rattle.known_advance.specs.Reports.{CountedAs, CountsBefore, AdvancedAs, Ready, ended, writing, advanced-by, advance-call};
+ghost use Rattle.known_advance.specs.Reports.{AdvancedAs, advanced-answer, advance-call};
+ghost use Rattle.known_advance.specs.Inner.{CountedAs, CountsBefore, Ready, ended, writing};
 
 // An advance's report (`DeltaReport`); the slots written are in the output.
 pub struct AdvanceReport {
@@ -209,7 +211,7 @@ fn carried(
 // The answer of an advance to the installed anchor.
 fn current(s: &[u8]) -> Advanced
     requires { ⌜ Installed (now s) ⌝ }
-    ensures { λ r. ⌜ r ≡ advanced-by (already-current (store-of (now (s .entry)) .config) (generation-of (now (s .entry)))) ⌝ }
+    ensures { λ r. ⌜ ((out : List ℕ) → advanced-answer r out ≡ ok (already-current (store-of (now (s .entry)) .config) (generation-of (now (s .entry))))) ⌝ }
 {
     let counted = counts_of(s);
     Advanced::Done(AdvanceReport {

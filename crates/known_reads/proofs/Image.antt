@@ -40,7 +40,7 @@ use Rattle.totals.proofs.InStore.{store-with, store-with-totals}
 use Rattle.known.proofs.Segments.{placed-over}
 use Rattle.known.proofs.Changed.{store-split, length-retention, length-hash}
 use Rattle.settling.specs.Settling.{Settled}
-use Rattle.known_reads.specs.Answers.{reading, awaited}
+use Rattle.known_reads.specs.Inner.{reading, awaited}
 
 -- Segments ---------------------------------------------------------------------------------------------
 

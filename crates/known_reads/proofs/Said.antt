@@ -16,18 +16,21 @@ use Rattle.model.specs.Slots.{Value, u256-words, u256-eqb, hash-eqb, anchor-eqb
 use Rattle.model.proofs.SlotLaws.{and-intro, words-eqb-refl, anchor-eqb-true}
 use Rattle.model.specs.Layers.{Layer, is-some, record-count}
 use Rattle.model.specs.Reads.{Member, is-awaiting, waiters-of, join, queued, take-queued, remove-all-pending, woken, all-taken, has-duplicate, member-slots, valued-slots, refused-slots, settle-members, count-served, count-waiting, count-answer}
-use Rattle.model.specs.Entries.{with-slots}
+use Rattle.model.specs.Entries.{first-slots, with-slots}
+use Rattle.model.proofs.EntryLaws.{SlotFits, Each, slots-back}
 use Rattle.model.specs.Store.{Config, Generation, Store, AnchoredCall, read, take, answer, answer-failed, at-anchor, Call, on-store, Memory, Performed, Accepted, accept, chain, resolved, touched-top, with-reads, perform-answer, value, waiting, listed, answered}
 use Rattle.model.specs.Refusals.{Lent, answered-slots, Answer, refuse, ok, StepResult, conclude, step, refusal, over-capacity}
 use Rattle.image.specs.Image.{decode, overlay, bytes-after, BytesCall, BytesResult, lent-call, bytes-step}
 use Rattle.image.specs.Lent.{store-of, generation-of, IsStore, Installed}
 use Rattle.image.specs.Output.{output-after}
 use Rattle.image.proofs.Lent.{generation-in}
-use Rattle.known.specs.Answers.{anchored-refusal, alone, Stepped}
+use Rattle.known.specs.Answers.{alone, Stepped}
+use Rattle.known.specs.Inner.{anchored-refusal}
 use Rattle.known.proofs.Turned.{memory-of, over-by, no-store}
 use Rattle.known.proofs.Guards.{Here}
 use Rattle.known_reads.specs.declared.TakeAnswer.the-variants.{No as no-take, Listed}
-use Rattle.known_reads.specs.Answers.{reading, awaited, with-output, Took}
+use Rattle.known_reads.specs.Answers.{with-output, Took}
+use Rattle.known_reads.specs.Inner.{reading, awaited}
 use Rattle.known_reads.proofs.Turned.{twice, nothing-there, other-there, read-here, read-served, read-waits, take-here, take-accepted, answer-here, failed-here, answer-accepted, failed-accepted}
 
 abbrev lent : List ℕ → BytesCall → Lent
@@ -56,8 +59,11 @@ stepped q = record { answer-is = ap (λ (o : BytesResult). o .answer) (sym q); b
 pub took-none : {b out : List ℕ} {n : ℕ} {o : BytesResult} → o ≡ record { bytes = b; answer = refuse n } → Took (no-take n) b out out o
 took-none {b} {out} {n} {o} q = subst (λ (x : BytesResult). Took (no-take n) b out out x) (sym q) (record { answer-is = refl; bytes-is = refl; output-is = refl })
 
-pub took : {b x out y : List ℕ} {n : ℕ} {ss : List Slot} {o : BytesResult} → o ≡ record { bytes = b; answer = ok (listed ss) } → n ≡ length ss → x ≡ b → y ≡ with-slots ss out → Took (Listed n) x y out o
-took {b} {x} {out} {y} {n} {ss} {o} q e f g = subst (λ (r : BytesResult). Took (Listed n) x y out r) (sym q) (record { answer-is = ap Listed e; bytes-is = f; output-is = g })
+pub took : {b x out y : List ℕ} {n : ℕ} {ss : List Slot} {o : BytesResult} → o ≡ record { bytes = b; answer = ok (listed ss) } → Each SlotFits ss → n ≡ length ss → x ≡ b → y ≡ with-slots ss out
+    → Took (Listed n) x y out o
+took {b} {x} {out} {y} {n} {ss} {o} q t e f g =
+    let k : first-slots n y ≡ ss = ap₂ first-slots e g ∙ slots-back out t in
+    subst (λ (r : BytesResult). Took (Listed n) x y out r) (sym q) (record { answer-is = ap (λ (l : List Slot). ok (listed l)) k; bytes-is = f; output-is = g })
 
 -- 20, 8, 21 and 22.
 abbrev anchored : ReadAnchor → AnchoredCall → ℕ → BytesCall

@@ -1,23 +1,24 @@
 -- What the answers of a read, a take and an answer mean in the model's terms, and what a call's contract says.
-use Prim.Native.Nat.{ℕ, _/_, _<_}
+use Prim.Native.Nat.{ℕ, _/_}
 use mathlib.Core.Path.{_≡_}
+use mathlib.Core.Bool.{cond}
 use mathlib.Core.List.{List}
-use mathlib.Core.Option.{some}
 use lib.ListN.{length}
-use Rattle.model.specs.declared.read_hub.ReadTotals.{ReadTotals}
-use Rattle.model.specs.Layers.{Layer}
-use Rattle.model.specs.Reads.{Pending}
-use Rattle.model.specs.Store.{Config, Generation, Memory, Call, with-reads, Report, opened, anchor-same, anchor-fresh, advanced, value, no-value, stored, waiting, listed, answered}
+use Rattle.model.specs.declared.storage_memo.ReadAnchor.{ReadAnchor}
+use Rattle.model.specs.Entries.{first-slots, members-of, flags-known}
+use Rattle.model.specs.Store.{Call, on-store, at-anchor, answer, value, waiting, listed, answered}
 use Rattle.model.specs.Refusals.{Answer, refuse, ok}
-use Rattle.image.specs.Image.{BytesCall, BytesResult}
+use Rattle.image.specs.Image.{BytesCall, BytesResult, bytes-step}
 use Rattle.image.specs.Output.{output-after}
-use Rattle.image.specs.Lent.{generation-of, Installed as HasGeneration}
+use Rattle.known.specs.Answers.{alone}
 use Rattle.known_reads.specs.declared.ReadAnswer.{ReadAnswer}
 use Rattle.known_reads.specs.declared.ReadAnswer.the-variants.{No as no-read, Value as Read-value, Wait}
 use Rattle.known_reads.specs.declared.TakeAnswer.{TakeAnswer}
 use Rattle.known_reads.specs.declared.TakeAnswer.the-variants.{No as no-take, Listed}
 use Rattle.known_reads.specs.declared.AnswerAnswer.{AnswerAnswer}
 use Rattle.known_reads.specs.declared.AnswerAnswer.the-variants.{No as no-answer, Answered}
+
+-- A refusal is its number and nothing else: `refuse n` carries no count, document 01's "all counts 0".
 
 -- A read's answer.
 abbrev pub read-answer : ReadAnswer → Answer
@@ -30,31 +31,16 @@ abbrev pub answered-answer : AnswerAnswer → Answer
 answered-answer (no-answer n) = refuse n
 answered-answer (Answered m e w) = ok (answered m e w)
 
--- What a take answers of a report: the number of the slots listed. No other report is a take's.
-abbrev pub listed-of : Report → TakeAnswer
-listed-of opened = Listed 0
-listed-of anchor-same = Listed 0
-listed-of anchor-fresh = Listed 0
-listed-of (advanced d) = Listed 0
-listed-of (value v) = Listed 0
-listed-of no-value = Listed 0
-listed-of stored = Listed 0
-listed-of (waiting n) = Listed 0
-listed-of (listed ss) = Listed (length ss)
-listed-of (answered m e w) = Listed 0
+-- A take's answer, with its output after the call: the slots listed are the output's first entries, as many as the answer says.
+abbrev pub take-answer : TakeAnswer → List ℕ → Answer
+take-answer (no-take n) out = refuse n
+take-answer (Listed n) out = ok (listed (first-slots n out))
 
--- What a take answers of the model's answer.
-abbrev pub taken-of : Answer → TakeAnswer
-taken-of (refuse n) = no-take n
-taken-of (ok r) = listed-of r
-
--- A store whose generation has another top, other awaiting slots and other totals.
-abbrev pub reading : Config → Generation → Layer → List Pending → ReadTotals → Memory
-reading cfg g t q r = some (record { config = cfg; installed = some (with-reads g t q r) })
-
--- The same with other awaiting slots alone.
-abbrev pub awaited : Config → Generation → List Pending → Memory
-awaited cfg g q = reading cfg g (g .top) q (g .totals)
+-- An answer with members in lent bytes. A member's flag byte is a form byte: one that is neither 0 nor 1 is refused by 3,
+-- before every other refusal, with every byte kept.
+unfoldable pub answer-step : List ℕ → ReadAnchor → List ℕ → BytesResult
+answer-step b a members =
+    cond (flags-known members) (bytes-step b (alone (on-store (at-anchor a (answer (members-of members)))))) (record { bytes = b; answer = refuse 3 })
 
 -- A call that is lent the store and an output of whole entries of 52 bytes.
 abbrev pub with-output : Call → List ℕ → BytesCall
@@ -62,11 +48,6 @@ with-output c out = record { call = c; work-bytes = 0; output-entries = length o
 
 -- A take answered, and left the bytes and the output, as a result says.
 pub record Took (answer : TakeAnswer) (after out-after : List ℕ) (out : List ℕ) (o : BytesResult) : Type 0 where
-  pub answer-is : answer ≡ taken-of (o .answer)
+  pub answer-is : take-answer answer out-after ≡ o .answer
   pub bytes-is : after ≡ o .bytes
   pub output-is : out-after ≡ output-after (o .answer) out
-
--- A generation that has had fewer than 4,294,967,295 accepted reads.
-pub record Open (b : List ℕ) : Type 0 where
-  pub installed : HasGeneration b
-  pub fewer : generation-of b .totals .accepted < 4294967295

@@ -19,7 +19,8 @@ ghost use Rattle.image.specs.Image.{decode, overlay, bytes-step};
 ghost use Rattle.image.specs.Lent.{store-of, generation-of, Installed as HasGeneration};
 ghost use Rattle.awaiting.specs.Awaiting.{Lists, entry-slots};
 ghost use Rattle.known.specs.Answers.{alone, Stepped};
-ghost use Rattle.known_reads.specs.Answers.{read-answer, answered-answer, awaited, with-output, Took, Open};
+ghost use Rattle.known_reads.specs.Answers.{read-answer, answered-answer, with-output, Took};
+ghost use Rattle.known_reads.specs.Inner.{awaited, Open};
 
 // A read's answer: a refusal's number, the value, or the slot's waiters.
 pub enum ReadAnswer {

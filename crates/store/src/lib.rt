@@ -1,4 +1,4 @@
-// The store's calls on any lent bytes: each is refused, or done as its definition says.
+// The store's calls on any lent bytes: each is refused, or done as its definition says. docs/REFERENCE.md describes each.
 use known::Installed;
 use known::Looked;
 use known::Opened;

@@ -1,4 +1,4 @@
-// The call advance on any lent bytes: it is refused, or done as its definition says.
+// The call advance on any lent bytes: it is refused, or done as its definition says. docs/REFERENCE.md describes it.
 use known_advance::Advanced;
 use model::storage_memo::B256;
 use model::storage_memo::ReadAnchor;

@@ -1,4 +1,4 @@
-// The calls read, take, answer and answer_failed on any lent bytes: each is refused, or done as its definition says.
+// The calls read, take, answer and answer_failed on any lent bytes: each is refused, or done as its definition says. docs/REFERENCE.md describes each.
 use known_reads::AnswerAnswer;
 use known_reads::ReadAnswer;
 use known_reads::TakeAnswer;
@@ -6,10 +6,10 @@ use model::delta_snapshot::Slot;
 use model::storage_memo::ReadAnchor;
 ghost use Rattle.model.specs.Store as calls;
 ghost use Rattle.model.specs.Store.{on-store, at-anchor};
-ghost use Rattle.model.specs.Entries.{slots-of, members-of};
+ghost use Rattle.model.specs.Entries.{slots-of};
 ghost use Rattle.image.specs.Image.{bytes-step};
 ghost use Rattle.known.specs.Answers.{alone, Stepped};
-ghost use Rattle.known_reads.specs.Answers.{read-answer, answered-answer, with-output, Took};
+ghost use Rattle.known_reads.specs.Answers.{read-answer, answered-answer, answer-step, with-output, Took};
 
 // The value of a served slot, else the slot awaits an answer. Refused by 20, 21, 22, 25, 24 and 23.
 pub fn read(s: &mut [u8], anchor: ReadAnchor, slot: Slot) -> ReadAnswer
@@ -31,10 +31,13 @@ pub fn take(s: &mut [u8], anchor: ReadAnchor, out: &mut [u8]) -> TakeAnswer
     known_reads::take(s, anchor, out)
 }
 
-// The answer to taken slots: a value is put and wakes their waiters, a refusal wakes them with it. Refused by 20, 8, 21, 22, 26 and 23.
+// The answer to taken slots: a value is put and wakes their waiters, a refusal wakes them with it. Refused by 3, 20, 8, 21, 22, 26 and 23.
 pub fn answer(s: &mut [u8], anchor: ReadAnchor, members: &[u8]) -> AnswerAnswer
-    ensures { λ r. ⌜ Stepped (answered-answer r) (now (s .exit)) (bytes-step (now (s .entry)) (alone (on-store (at-anchor anchor (calls.answer (members-of (now (members .entry)))))))) ⌝ }
+    ensures { λ r. ⌜ Stepped (answered-answer r) (now (s .exit)) (answer-step (now (s .entry)) anchor (now (members .entry))) ⌝ }
 {
+    if !awaiting::flags_known(members) {
+        return AnswerAnswer::No(3);
+    }
     if !check_store::is_store(s) {
         return AnswerAnswer::No(20);
     }

@@ -9,14 +9,15 @@ use denote.Ref.{now}
 use borrow.Author.Needs.{needs}
 use borrow.Author.Tests.{ne-eqb}
 use Rattle.final_writes.specs.FinalWrites.{sum}
-use Rattle.final_writes.specs.Lent.{all-entries, word}
+use Rattle.model.specs.Entries.{number-at}
+use Rattle.final_writes.specs.Lent.{all-entries}
 use Rattle.words.proofs.Places.{entry-fits}
 use Rattle.final_writes.proofs.Entries.{sum-at, none-left, eqb-both, word-at}
 use Rattle.final_writes.proofs.counts_sum.Statement.{statement}
 use Rattle.final_writes.proofs.counts_sum.Tie as tie
 
 abbrev Inv-loop : tie.InvT-loop
-Inv-loop list width at total n left₀ i₀ left i = (i ≤ n) × (n ≡ length list / width) × (left ≤ total) × (total - left + sum (drop i (all-entries (word at) width list)) ≡ sum (all-entries (word at) width list))
+Inv-loop list width at total n left₀ i₀ left i = (i ≤ n) × (n ≡ length list / width) × (left ≤ total) × (total - left + sum (drop i (all-entries (number-at at 8) width list)) ≡ sum (all-entries (number-at at 8) width list))
 
 abbrev μ-loop : tie.MeasureT-loop
 μ-loop list width at total n left₀ i₀ left i = n - i
@@ -33,11 +34,11 @@ here c = let a = c .before .before .before .args in entry-fits (a .width) (c .be
 
 -- What is left to sum begins with the count that was read.
 said : (c : tie.After-read-u64 Inv-loop μ-loop) → let l = c .before .before .loop in let a = c .before .before .before .before .args in
-    sum (drop (l .i) (all-entries (word (a .at)) (a .width) (now (a .list)))) ≡ c .read-u64 .result + sum (drop (l .i + 1) (all-entries (word (a .at)) (a .width) (now (a .list))))
+    sum (drop (l .i) (all-entries (number-at (a .at) 8) (a .width) (now (a .list)))) ≡ c .read-u64 .result + sum (drop (l .i + 1) (all-entries (number-at (a .at) 8) (a .width) (now (a .list))))
 said c =
     let l = c .before .before .loop in
     let a = c .before .before .before .before .args in
-    omega (arith, sum-at (word (a .at)) (a .width) (l .i) (length (now (a .list)) / a .width) (now (a .list)) (omega arith), word-at (a .at) (l .i * a .width) (now (a .list)), c .read-u64 .ensures)
+    omega (arith, sum-at (number-at (a .at) 8) (a .width) (l .i) (length (now (a .list)) / a .width) (now (a .list)) (omega arith), word-at (a .at) (l .i * a .width) (now (a .list)), c .read-u64 .ensures)
 
 ended : (rd : List ℕ → ℕ) (w i : ℕ) (l : List ℕ) → length l / w ≤ i → sum (drop i (all-entries rd w l)) ≡ 0
 unfolding sum
@@ -56,7 +57,7 @@ returns : tie.Need-returns Inv-loop μ-loop
 returns c =
     let l = c .before .before .before .loop in
     let a = c .before .before .before .before .before .args in
-    sym (ne-eqb (sum (all-entries (word (a .at)) (a .width) (now (a .list)))) (a .total) (λ e. omega (arith, said (c .before), l .inv .3)))
+    sym (ne-eqb (sum (all-entries (number-at (a .at) 8) (a .width) (now (a .list)))) (a .total) (λ e. omega (arith, said (c .before), l .inv .3)))
 
 add-i : tie.Need-add-i Inv-loop μ-loop
 add-i c =
@@ -80,8 +81,8 @@ returns-2 : tie.Need-returns-2 Inv-loop μ-loop
 returns-2 c =
     let l = c .before .loop in
     let a = c .before .before .before .args in
-    let e : sum (drop (l .i) (all-entries (word (a .at)) (a .width) (now (a .list)))) ≡ 0 = ended (word (a .at)) (a .width) (l .i) (now (a .list)) (omega arith) in
-    eqb-both (l .left) 0 (sum (all-entries (word (a .at)) (a .width) (now (a .list)))) (a .total) (λ h. omega (arith, l .inv .3)) (λ h. omega (arith, l .inv .3))
+    let e : sum (drop (l .i) (all-entries (number-at (a .at) 8) (a .width) (now (a .list)))) ≡ 0 = ended (number-at (a .at) 8) (a .width) (l .i) (now (a .list)) (omega arith) in
+    eqb-both (l .left) 0 (sum (all-entries (number-at (a .at) 8) (a .width) (now (a .list)))) (a .total) (λ h. omega (arith, l .inv .3)) (λ h. omega (arith, l .inv .3))
 
 pub counts-sum-spec : {M : Type 1} → statement M
 counts-sum-spec =

@@ -11,7 +11,7 @@ use borrow.Author.Needs.{needs}
 use Rattle.final_writes.specs.declared.SeedCounts.{SeedCounts}
 use Rattle.final_writes.specs.declared.FinalWritesAnswer.the-variants.{Seeded}
 use Rattle.final_writes.specs.FinalWrites.{counts-differ}
-use Rattle.final_writes.specs.Lent.{plan-of, lent-lists, lent-outcome, Answers}
+use Rattle.final_writes.specs.Lent.{plan-of, lent-lists, lent-final-writes, Answers}
 use Rattle.final_writes.specs.Walking.{counts-of}
 use Rattle.final_writes.proofs.Outcomes.{start-fits, refused-10, refused-9-writes, refused-9-reads, accepted}
 use Rattle.final_writes.proofs.final_writes.Statement.{statement}
@@ -75,13 +75,14 @@ returns-4 c =
     let k = c .before .before .before .before .before .before .before in
     let e = k .before .before .before in
     let st = e .before .before .before .before .before .before .before .before .before .before .before in
+    let known = e .before .before .before .before .before .before .before in
     let a = st .args in
     let w = k .seed-from-accounts .result in
     let wo' : List ℕ = k .seed-from-accounts .last .1 .1 .1 .1 .1 .1 .1 .0 in
     let ro' : List ℕ = k .seed-from-accounts .last .1 .1 .1 .1 .1 .1 .1 .1 .0 in
-    subst (λ (x : SeedCounts). Answers (Seeded x) wo' ro' (lent-outcome (plan-of (now (a .plan-addresses)) (a .max-writes) (a .max-reads)) (lent-lists (now (a .accounts)) (now (a .slots)) (now (a .changes)) (now (a .reads))) (now (a .writes-out)) (now (a .reads-out))))
+    subst (λ (x : SeedCounts). Answers (Seeded x) wo' ro' (lent-final-writes (plan-of (now (a .plan-addresses)) (a .max-writes) (a .max-reads)) (lent-lists (now (a .accounts)) (now (a .slots)) (now (a .changes)) (now (a .reads))) (now (a .writes-out)) (now (a .reads-out))) (now (a .writes-out)) (now (a .reads-out)))
     (sym (c .counts-of .ensures ∙ ap₂ (counts-of w) (c .before .before .limit .ensures) (c .before .limit2 .ensures)))
-    (accepted (now (a .accounts)) (now (a .slots)) (now (a .changes)) (now (a .reads)) (now (a .plan-addresses)) (now (a .writes-out)) (now (a .reads-out)) (a .max-writes) (a .max-reads) w wo' ro' (alike (e .before .before)) (e .before .if2 .left) (e .if3 .left) (lists-small st .0) (lists-small st .1) (k .seed-from-accounts .ensures))
+    (accepted (now (a .accounts)) (now (a .slots)) (now (a .changes)) (now (a .reads)) (now (a .plan-addresses)) (now (a .writes-out)) (now (a .reads-out)) (a .max-writes) (a .max-reads) w wo' ro' (alike (e .before .before)) (e .before .if2 .left) (e .if3 .left) (λ j. known .before .before .before .shared-slice-known .given j .fits) (λ j. known .before .before .shared-slice-known2 .given j .fits) (λ j. known .before .shared-slice-known3 .given j .fits) (λ j. known .shared-slice-known4 .given j .fits) (lists-small st .0) (lists-small st .1) (k .seed-from-accounts .ensures))
 
 pub final-writes-spec : {M : Type 1} → statement M
 final-writes-spec =

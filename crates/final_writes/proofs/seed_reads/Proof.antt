@@ -11,18 +11,19 @@ use denote.Ref.{now}
 use borrow.Author.Needs.{needs}
 use borrow.Author.Tests.{lt-ltb, le-ltb}
 use Rattle.model.specs.declared.delta_snapshot.Slot.{Slot}
-use Rattle.final_writes.proofs.Entries.{length-read-bytes, read-back}
+use Rattle.model.proofs.EntryLaws.{length-slot}
+use Rattle.final_writes.proofs.Entries.{read-back}
 use Rattle.final_writes.proofs.Filling.{length-put}
 use Rattle.model.specs.Numbers.{Bytes}
 use Rattle.words.specs.Parts.{part, placed}
-use Rattle.final_writes.specs.Lent.{read-address, read-u256, read-bytes}
+use Rattle.model.specs.Entries.{address-of, slot-bytes, u256-at}
 use Rattle.final_writes.specs.Walking.{ReadsSeeded}
 use Rattle.final_writes.proofs.ReadWalk.{no-reads-seeded, read-seeded}
 use Rattle.final_writes.proofs.seed_reads.Statement.{statement}
 use Rattle.final_writes.proofs.seed_reads.Tie as tie
 
 abbrev Inv-loop : tie.InvT-loop
-Inv-loop accounts at reads from count most found out₀ i₀ out i = (i ≤ count) × (length out ≡ length out₀) × ReadsSeeded (read-address (drop at accounts)) reads most from i found out₀ out
+Inv-loop accounts at reads from count most found out₀ i₀ out i = (i ≤ count) × (length out ≡ length out₀) × ReadsSeeded (address-of (drop at accounts)) reads most from i found out₀ out
 
 abbrev μ-loop : tie.MeasureT-loop
 μ-loop accounts at reads from count most found out₀ i₀ out i = count - i
@@ -39,10 +40,10 @@ abbrev the-read : tie.Joined1 Inv-loop μ-loop → Slot
 the-read c =
     let l = c .before .before .loop in
     let a = c .before .before .before .before .before .before .args in
-    record { address = read-address (drop (a .at) (now (a .accounts))); index = read-u256 (drop ((a .from + l .i) * 32) (now (a .reads))) }
+    record { address = address-of (drop (a .at) (now (a .accounts))); index = u256-at 0 (drop ((a .from + l .i) * 32) (now (a .reads))) }
 
 abbrev written : tie.Joined1 Inv-loop μ-loop → List ℕ
-written c = read-bytes (the-read c)
+written c = slot-bytes (the-read c)
 
 out-is : (c : tie.Joined1 Inv-loop μ-loop) → let l = c .before .before .loop in let a = c .before .before .before .before .before .before .args in
     c .if1 .out ≡ cond (ltb (a .found + l .i) (a .most)) (placed ((a .found + l .i) * 52) (written c) (l .out)) (l .out)
@@ -61,7 +62,7 @@ out-is c =
 loop-holds : tie.Need-loop-holds Inv-loop μ-loop
 loop-holds c =
     let a = c .before .before .before .args in
-    (search needs, refl, no-reads-seeded (read-address (drop (a .at) (now (a .accounts)))) (now (a .reads)) (a .most) (a .from) (a .found) (now (a .out)))
+    (search needs, refl, no-reads-seeded (address-of (drop (a .at) (now (a .accounts)))) (now (a .reads)) (a .most) (a .from) (a .found) (now (a .out)))
 
 add-if1 : tie.Need-add-if1 Inv-loop μ-loop
 add-if1 c = omega arith
@@ -91,8 +92,8 @@ loop-again c =
     let l = c .before .before .loop in
     let a = c .before .before .before .before .before .before .args in (
       search needs,
-      ap length (out-is c) ∙ length-put (ltb (a .found + l .i) (a .most)) ((a .found + l .i) * 52) (written c) (l .out) (omega (arith, l .inv .1, length-read-bytes (the-read c))) ∙ l .inv .1,
-      read-seeded (read-address (drop (a .at) (now (a .accounts)))) (now (a .reads)) (a .most) (a .from) (a .found) (now (a .out)) (l .i) (l .out) (c .if1 .out) (omega arith) (l .inv .2) (out-is c),
+      ap length (out-is c) ∙ length-put (ltb (a .found + l .i) (a .most)) ((a .found + l .i) * 52) (written c) (l .out) (omega (arith, l .inv .1, length-slot (the-read c))) ∙ l .inv .1,
+      read-seeded (address-of (drop (a .at) (now (a .accounts)))) (now (a .reads)) (a .most) (a .from) (a .found) (now (a .out)) (l .i) (l .out) (c .if1 .out) (omega arith) (l .inv .2) (out-is c),
     )
 
 same-length : tie.Need-same-length Inv-loop μ-loop
@@ -103,7 +104,7 @@ returns c =
     let l = c .before .loop in
     let a = c .before .before .before .before .before .args in
     let e : l .i ≡ a .count = omega arith in
-    subst (λ (n : ℕ). ReadsSeeded (read-address (drop (a .at) (now (a .accounts)))) (now (a .reads)) (a .most) (a .from) n (a .found) (now (a .out)) (l .out)) e (l .inv .2)
+    subst (λ (n : ℕ). ReadsSeeded (address-of (drop (a .at) (now (a .accounts)))) (now (a .reads)) (a .most) (a .from) n (a .found) (now (a .out)) (l .out)) e (l .inv .2)
 
 pub seed-reads-spec : {M : Type 1} → statement M
 seed-reads-spec =

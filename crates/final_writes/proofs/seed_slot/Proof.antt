@@ -19,7 +19,8 @@ use Rattle.final_writes.proofs.Entries.{length-write-bytes, word-at, wr
 use Rattle.final_writes.proofs.Filling.{length-put}
 use Rattle.model.specs.Numbers.{Bytes}
 use Rattle.words.specs.Parts.{part, placed}
-use Rattle.final_writes.specs.Lent.{word, read-address, read-u256, write-bytes}
+use Rattle.model.specs.Entries.{address-of, number-at, u256-at}
+use Rattle.final_writes.specs.Lent.{write-bytes}
 use Rattle.final_writes.proofs.SlotWalk.{changes-here, unchanged, changed}
 use Rattle.final_writes.proofs.seed_slot.Statement.{statement}
 use Rattle.final_writes.proofs.seed_slot.Tie as tie
@@ -29,7 +30,7 @@ here : (c : tie.Start) → c .args .from .slot < length (now (c .args .slots)) /
 here c = omega arith
 
 count-is : (c : tie.After-read-u64) → let a = c .before .before .before .before .before .args in
-    c .read-u64 .result ≡ word 32 (drop (a .from .slot * 40) (now (a .slots)))
+    c .read-u64 .result ≡ number-at 32 8 (drop (a .from .slot * 40) (now (a .slots)))
 count-is c = let a = c .before .before .before .before .before .args in c .read-u64 .ensures ∙ sym (word-at 32 (a .from .slot * 40) (now (a .slots)))
 
 left : (c : tie.After-read-u64) → let a = c .before .before .before .before .before .args in
@@ -37,7 +38,7 @@ left : (c : tie.After-read-u64) → let a = c .before .before .before .before .b
 left c =
     let st = c .before .before .before .before .before in
     let a = st .args in
-    omega (arith, count-is c, changes-here (read-address (drop (a .at) (now (a .accounts)))) (now (a .slots)) (now (a .changes)) (a .most) (a .from) (here st) (st .pre .1 .changes-left))
+    omega (arith, count-is c, changes-here (address-of (drop (a .at) (now (a .accounts)))) (now (a .slots)) (now (a .changes)) (a .most) (a .from) (here st) (st .pre .1 .changes-left))
 
 -- The change that was found, and the write that it gives.
 last-is : (k : tie.After-known-told) → k .before .before .before .final-change .result ≡ At (k .before .last .given .0 .0)
@@ -52,8 +53,8 @@ abbrev the-write : tie.After-known-told → Write
 the-write k =
     let a = k .before .before .before .before .before .before .before .before .before .args in
     record {
-      slot = record { address = read-address (drop (a .at) (now (a .accounts))); index = read-u256 (drop (a .from .slot * 40) (now (a .slots))) };
-      value = read-u256 (drop (k .before .last .given .0 .0 * 40 + 8) (now (a .changes)));
+      slot = record { address = address-of (drop (a .at) (now (a .accounts))); index = u256-at 0 (drop (a .from .slot * 40) (now (a .slots))) };
+      value = u256-at 0 (drop (k .before .last .given .0 .0 * 40 + 8) (now (a .changes)));
     }
 
 abbrev written : tie.After-known-told → List ℕ
@@ -116,7 +117,7 @@ returns c =
     let k = c .before .before .before in
     let st = k .before .before .before .before .before in
     let a = st .args in
-    unchanged (read-address (drop (a .at) (now (a .accounts)))) (now (a .slots)) (now (a .changes)) (a .most) (a .from) (here st) (st .pre .1 .changes-left)
+    unchanged (address-of (drop (a .at) (now (a .accounts)))) (now (a .slots)) (now (a .changes)) (a .most) (a .from) (here st) (st .pre .1 .changes-left)
     (k .read-u64 .result) (c .before .before .final-change .result) (count-is k) (c .before .before .final-change .ensures) (now (a .out)) (search needs)
 
 mul-put-write : tie.Need-mul-put-write
@@ -154,7 +155,7 @@ returns-2 c =
     let k = c .before .before .before .before .before in
     let st = k .before .before .before .before .before in
     let a = st .args in
-    changed (read-address (drop (a .at) (now (a .accounts)))) (now (a .slots)) (now (a .changes)) (a .most) (a .from) (here st) (st .pre .1 .changes-left)
+    changed (address-of (drop (a .at) (now (a .accounts)))) (now (a .slots)) (now (a .changes)) (a .most) (a .from) (here st) (st .pre .1 .changes-left)
     (k .read-u64 .result) (c .before .before .before .before .final-change .result) (count-is k) (c .before .before .before .before .final-change .ensures)
     (c .before .before .last .given .0 .0) (now (a .out)) (c .if1 .out) (last-is (c .before)) (out-is c)
 

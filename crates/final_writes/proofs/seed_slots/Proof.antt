@@ -5,14 +5,14 @@ use native.Mathlib.Omega.{arith}
 use lib.ListN.{length, drop}
 use denote.Ref.{now}
 use borrow.Author.Needs.{needs}
-use Rattle.final_writes.specs.Lent.{read-address}
+use Rattle.model.specs.Entries.{address-of}
 use Rattle.final_writes.specs.Walking.{SlotsSeeded}
 use Rattle.final_writes.proofs.SlotWalk.{none-seeded, more-seeded}
 use Rattle.final_writes.proofs.seed_slots.Statement.{statement}
 use Rattle.final_writes.proofs.seed_slots.Tie as tie
 
 abbrev Inv-loop : tie.InvT-loop
-Inv-loop accounts at slots changes count most out₀ spot₀ i₀ out spot i = (i ≤ count) × (length out ≡ length out₀) × SlotsSeeded (read-address (drop at accounts)) slots changes most i spot₀ out₀ spot out
+Inv-loop accounts at slots changes count most out₀ spot₀ i₀ out spot i = (i ≤ count) × (length out ≡ length out₀) × SlotsSeeded (address-of (drop at accounts)) slots changes most i spot₀ out₀ spot out
 
 abbrev μ-loop : tie.MeasureT-loop
 μ-loop accounts at slots changes count most out₀ spot₀ i₀ out spot i = count - i
@@ -21,7 +21,7 @@ loop-holds : tie.Need-loop-holds Inv-loop μ-loop
 loop-holds c =
     let st = c .before .before .before .before in
     let a = st .args in
-    (search needs, refl, none-seeded (read-address (drop (a .at) (now (a .accounts)))) (now (a .slots)) (now (a .changes)) (a .most) (a .from) (now (a .out)) (st .pre .1 .changes-left))
+    (search needs, refl, none-seeded (address-of (drop (a .at) (now (a .accounts)))) (now (a .slots)) (now (a .changes)) (a .most) (a .from) (now (a .out)) (st .pre .1 .changes-left))
 
 seed-slot-requires : tie.Need-seed-slot-requires Inv-loop μ-loop
 seed-slot-requires c κs =
@@ -41,7 +41,7 @@ loop-again c =
     let a = c .before .before .before .before .before .before .before .before .before .before .args in (
       search needs,
       c .before .before .seed-slot .kept .1 .1 .1 .1 .1 .1 .0 ∙ l .inv .1,
-      more-seeded (read-address (drop (a .at) (now (a .accounts)))) (now (a .slots)) (now (a .changes)) (a .most) (l .i) 1 (a .from) (l .spot) (c .before .before .seed-slot .result) (now (a .out)) (l .out) _ (l .inv .2) (c .before .before .seed-slot .ensures),
+      more-seeded (address-of (drop (a .at) (now (a .accounts)))) (now (a .slots)) (now (a .changes)) (a .most) (l .i) 1 (a .from) (l .spot) (c .before .before .seed-slot .result) (now (a .out)) (l .out) _ (l .inv .2) (c .before .before .seed-slot .ensures),
     )
 
 same-length : tie.Need-same-length Inv-loop μ-loop
@@ -52,7 +52,7 @@ returns c =
     let l = c .before .loop in
     let a = c .before .before .before .before .before .before .args in
     let e : l .i ≡ a .count = omega arith in
-    subst (λ (n : ℕ). SlotsSeeded (read-address (drop (a .at) (now (a .accounts)))) (now (a .slots)) (now (a .changes)) (a .most) n (a .from) (now (a .out)) (l .spot) (l .out)) e (l .inv .2)
+    subst (λ (n : ℕ). SlotsSeeded (address-of (drop (a .at) (now (a .accounts)))) (now (a .slots)) (now (a .changes)) (a .most) n (a .from) (now (a .out)) (l .spot) (l .out)) e (l .inv .2)
 
 pub seed-slots-spec : {M : Type 1} → statement M
 seed-slots-spec =

@@ -90,7 +90,7 @@ returns-2 c =
     let sw = k .before .before in
     let st = sw .before .before .before .before .before .before .before in
     let a = st .args in
-    finish-done (now (a .s)) (now (a .work)) (now (a .addresses)) (now (a .writes)) (now (a .out)) (a .outcome) (a .compaction) (st .pre .0) _ _ (known-bytes (sw .seed-final-writes .last .0) (k .slice-known4 .given)) (seeded-done _ _ _ _ _ _ (sw .seed-final-writes .ensures) (sd .seeded .given .1)) _ _ _ _ (rd .read-u64 .ensures) (cb .copy-back .ensures) (co .count-after .ensures .0) (co .count-after .ensures .1)
+    finish-done (now (a .s)) (now (a .work)) (now (a .addresses)) (now (a .writes)) (now (a .out)) (a .outcome) (a .compaction) (st .pre .0) _ _ (known-bytes (sw .seed-final-writes .last .0) (k .slice-known4 .given)) (seeded-done _ _ _ _ _ _ (sw .seed-final-writes .ensures) (sd .seeded .given .1)) _ _ _ _ (known-bytes (now (a .writes)) (sw .before .before .before .before .shared-slice-known2 .given)) (rd .read-u64 .ensures) (cb .copy-back .ensures) (co .count-after .ensures .0) (co .count-after .ensures .1)
 
 pub finish-spec : {M : Type 1} → statement M
 finish-spec =

@@ -42,7 +42,7 @@ returns c =
     let k = h .before .before .before .before .before .before .before in
     let st = k .before in
     let a = st .args in
-    proceed-current (now (a .s)) (a .child) (a .parent-hash) (a .skip) (now (a .addresses)) (now (a .writes)) _ (now (a .out)) (known-bytes (now (a .s)) (k .slice-known .given)) (here h) (c .current .ensures)
+    proceed-current (now (a .s)) (a .child) (a .parent-hash) (a .skip) (now (a .addresses)) (now (a .writes)) _ (now (a .out)) (known-bytes (now (a .s)) (k .slice-known .given)) (here h) (c .current .ensures (now (a .out)))
 
 classify-link-requires : tie.Need-classify-link-requires
 classify-link-requires c κs = search needs

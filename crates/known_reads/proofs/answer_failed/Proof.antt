@@ -17,7 +17,7 @@ use Rattle.image.specs.Image.{overlay}
 use Rattle.image.proofs.Lent.{decoded-some, generation-in}
 use Rattle.awaiting.proofs.Lists.{entry-slots-alone}
 use Rattle.known.proofs.Guards.{Here, past-guard}
-use Rattle.known_reads.specs.Answers.{reading, awaited}
+use Rattle.known_reads.specs.Inner.{reading, awaited}
 use Rattle.known_reads.proofs.Image.{removed-few, counts-in, counts-of, counted}
 use Rattle.known_reads.proofs.Said.{stepped, by-guard, failed-26, said-failed}
 use Rattle.known_reads.proofs.Counts.{stepped-as, failed-answerable, failed-totals, failed-says}

@@ -13,7 +13,7 @@ use Rattle.model.specs.Store.{Generation}
 use Rattle.image.specs.Lent.{store-of, generation-of}
 use Rattle.image.specs.Image.{overlay}
 use Rattle.awaiting.proofs.Lists.{entry-slots-members}
-use Rattle.known_reads.specs.Answers.{reading, awaited}
+use Rattle.known_reads.specs.Inner.{reading, awaited}
 use Rattle.known_reads.proofs.Image.{removed-few, after-settled, counts-in, counts-of, counted}
 use Rattle.known_reads.proofs.Said.{here-own, said-answer}
 use Rattle.known_reads.proofs.Counts.{stepped-as, distinct, taken-members, valued-few, answer-answerable, answer-totals, answer-says}

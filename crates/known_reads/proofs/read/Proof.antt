@@ -15,7 +15,7 @@ use Rattle.layers.specs.declared.Held.the-variants.{Value as HeldValue}
 use Rattle.layers.proofs.Header.{header-room}
 use Rattle.known.specs.Answers.{alone, Stepped}
 use Rattle.known.proofs.Guards.{Here, past-guard}
-use Rattle.known_reads.specs.Answers.{Open}
+use Rattle.known_reads.specs.Inner.{Open}
 use Rattle.known_reads.proofs.Said.{stepped, none-twice, by-guard, said-25, at-its-anchor}
 use borrow.Author.Needs.{needs}
 use Rattle.known_reads.proofs.read.Statement.{statement}

@@ -10,7 +10,7 @@ use Rattle.model.specs.Store.{touched-top, chain}
 use Rattle.image.specs.Lent.{store-of, generation-of}
 use Rattle.image.proofs.Lent.{generation-in}
 use Rattle.records.specs.Records.{count-after}
-use Rattle.known.specs.Answers.{Placed}
+use Rattle.known.specs.Inner.{Placed}
 use Rattle.known.proofs.Said.{with-bytes}
 use Rattle.known.proofs.Tops.{count-set}
 use Rattle.known.proofs.Guards.{room-yes, room-no}

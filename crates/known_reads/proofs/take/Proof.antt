@@ -9,8 +9,9 @@ use denote.Ref.{now}
 use Rattle.model.specs.Reads.{queued, has-duplicate}
 use Rattle.model.specs.Store.{take}
 use Rattle.image.specs.Lent.{generation-of}
-use Rattle.image.proofs.Lent.{decoded-some}
+use Rattle.image.proofs.Lent.{decoded-some, generation-in}
 use Rattle.known.proofs.Guards.{Here, past-guard}
+use Rattle.known_reads.proofs.Queue.{queued-fit}
 use Rattle.known_reads.proofs.Said.{took-none, took, by-guard, said-27, said-take, none-twice}
 use borrow.Author.Needs.{needs}
 use Rattle.known_reads.proofs.take.Statement.{statement}
@@ -68,7 +69,7 @@ returns-3 c =
     let e2 = t .before .before .before in
     let e1 = e2 .before .before .before in
     let a = e1 .before .before .before .before .before .args in
-    took (said-take (now (a .s)) (a .anchor) (here e1) (length (now (a .out)) / 52) (fits e2)) (t .take-queued .ensures .0 .count-is) (t .take-queued .ensures .1) (t .take-queued .ensures .0 .output-is)
+    took (said-take (now (a .s)) (a .anchor) (here e1) (length (now (a .out)) / 52) (fits e2)) (queued-fit _ (generation-in (now (a .s)) (here e1 .has) .facts .pending-right)) (t .take-queued .ensures .0 .count-is) (t .take-queued .ensures .1) (t .take-queued .ensures .0 .output-is)
 
 pub take-spec : {M : Type 1} → statement M
 take-spec =

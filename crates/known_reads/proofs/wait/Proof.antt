@@ -14,7 +14,7 @@ use Rattle.model.specs.Refusals.{ok}
 use Rattle.image.specs.Lent.{store-of, generation-of}
 use Rattle.image.specs.Image.{overlay}
 use Rattle.image.proofs.Lent.{generation-in}
-use Rattle.known_reads.specs.Answers.{reading}
+use Rattle.known_reads.specs.Inner.{reading}
 use Rattle.known_reads.proofs.Image.{counts-in, counts-small, counted}
 use Rattle.known_reads.proofs.Said.{stepped, here-own, said-24, said-waits}
 use Rattle.known_reads.proofs.Counts.{one-more, joins, stepped-as}
