@@ -1,22 +1,29 @@
 -- The calls of a list on lent bytes: they fit, so that their answers are those of the calls on states, and so is their listing. Assumes nothing.
-use mathlib.Core.Path.{_≡_, refl, ap, _∙_}
+use mathlib.Core.Path.{_≡_, refl, sym, ap, _∙_}
 use mathlib.Core.Bool.{Bool, true, _&&_}
-use mathlib.Core.List.{List, [], _∷_, _++_, map, map-map, append-assoc}
-use mathlib.Core.Option.{Option, some}
+use mathlib.Core.List.{List, [], _∷_, _++_, map, map-map, append-assoc, append-nil}
+use mathlib.Core.Option.{some}
 use Prim.Native.Nat.{ℕ}
 use lib.ListN.{length}
 use Rattle.model.specs.Numbers.{Bytes}
 use Rattle.model.specs.Store.{Call}
 use Rattle.model.specs.Refusals.{Answer, store-size, work-size, trace}
-use Rattle.image.specs.Image.{decode, BytesCall, BytesResult, lent-call, bytes-step, bytes-trace, bytes-final}
+use Rattle.image.specs.Image.{decode, BytesResult, lent-call, bytes-step, bytes-trace, bytes-final}
 use Rattle.image.specs.Claims.{call-fits, calls-fit}
 use Rattle.image.proofs.Closure.{closure}
 use Rattle.image.proofs.OnBytes.{on-bytes}
 use Rattle.call_list.specs.CallList.{CallList, call-list, add-call, no-more-calls}
 use Rattle.call_list.specs.Listing.{answer-lines, answers-lines, end-line, refusal-line}
 use Rattle.call_list.specs.Calls.{listing}
-use Rattle.call_laws.specs.Runs.{lent-each, bytes-listing, bytes-after-list}
+use Rattle.call_laws.specs.Runs.{lent-each}
 use Rattle.call_laws.proofs.Calls.{all-fit, call-list-fits}
+
+-- The lines of the calls of a list on bytes, and the listing: these lines, then the refusal that ends the list.
+abbrev pub bytes-lines : ℕ → ℕ → List ℕ → List Call → List ℕ
+bytes-lines w e b cs = answers-lines (bytes-trace b (lent-each w e cs))
+
+unfoldable pub bytes-listing : ℕ → ℕ → List ℕ → CallList → List ℕ
+bytes-listing w e b l = bytes-lines w e b (l .calls) ++ end-line (l .ends-with)
 
 same-fit : (w e : ℕ) (cs : List Call) → calls-fit (lent-each w e cs) ≡ all-fit cs
 unfolding calls-fit all-fit
@@ -45,7 +52,7 @@ listing-on-bytes b l f n =
     (answers-on-bytes (work-size 256) 1024 b (call-list l .calls) (call-list-fits l f)
     ∙ ap (λ (k : ℕ). trace (decode b) (map (λ c. record { call = c; lent = record { store-bytes = k; work-bytes = work-size 256; output-entries = 1024 } }) (call-list l .calls))) n)
 
--- The listing call by call, and the bytes after it.
+-- The listing call by call.
 module _ (w e : ℕ) (b : List ℕ) where
   pub listing-end : bytes-listing w e b no-more-calls ≡ []
   unfolding bytes-listing bytes-trace answers-lines
@@ -61,10 +68,33 @@ module _ (w e : ℕ) (b : List ℕ) where
   unfolding bytes-listing bytes-trace answers-lines
   listing-next c l = append-assoc (answer-lines (bytes-step b (record { call = c; work-bytes = w; output-entries = e }) .answer)) _ _
 
-  pub after-end : (o : Option ℕ) → bytes-after-list w e b (record { calls = []; ends-with = o }) ≡ b
-  unfolding bytes-after-list bytes-final
-  after-end o = refl
+-- The bytes after calls, and their lines: of none, of one, and of calls after others.
+module _ (w e : ℕ) where
+  pub final-none : (b : List ℕ) → bytes-final b (lent-each w e []) ≡ b
+  unfolding bytes-final
+  final-none b = refl
 
-  pub after-next : (c : Call) (l : CallList) → bytes-after-list w e b (add-call c l) ≡ bytes-after-list w e (bytes-step b (record { call = c; work-bytes = w; output-entries = e }) .bytes) l
-  unfolding bytes-after-list bytes-final
-  after-next c l = refl
+  pub final-one : (b : List ℕ) (c : Call) → bytes-final b (lent-each w e (c ∷ [])) ≡ bytes-step b (record { call = c; work-bytes = w; output-entries = e }) .bytes
+  unfolding bytes-final
+  final-one b c = refl
+
+  pub final-then : (b : List ℕ) (cs ds : List Call) → bytes-final b (lent-each w e (cs ++ ds)) ≡ bytes-final (bytes-final b (lent-each w e cs)) (lent-each w e ds)
+  unfolding bytes-final
+  final-then b [] ds = refl
+  final-then b (c ∷ cs) ds = final-then (bytes-step b (record { call = c; work-bytes = w; output-entries = e }) .bytes) cs ds
+
+  pub lines-none : (b : List ℕ) → bytes-lines w e b [] ≡ []
+  unfolding bytes-trace answers-lines
+  lines-none b = refl
+
+  pub lines-one : (b : List ℕ) (c : Call) → bytes-lines w e b (c ∷ []) ≡ answer-lines (bytes-step b (record { call = c; work-bytes = w; output-entries = e }) .answer)
+  unfolding bytes-trace answers-lines
+  lines-one b c = append-nil (answer-lines (bytes-step b (record { call = c; work-bytes = w; output-entries = e }) .answer))
+
+  pub lines-then : (b : List ℕ) (cs ds : List Call) → bytes-lines w e b (cs ++ ds) ≡ bytes-lines w e b cs ++ bytes-lines w e (bytes-final b (lent-each w e cs)) ds
+  unfolding bytes-trace bytes-final answers-lines
+  lines-then b [] ds = refl
+  lines-then b (c ∷ cs) ds =
+      let o : BytesResult = bytes-step b (record { call = c; work-bytes = w; output-entries = e }) in
+      ap (λ (x : List ℕ). answer-lines (o .answer) ++ x) (lines-then (o .bytes) cs ds)
+      ∙ sym (append-assoc (answer-lines (o .answer)) (bytes-lines w e (o .bytes) cs) (bytes-lines w e (bytes-final (o .bytes) (lent-each w e cs)) ds))

@@ -4,22 +4,23 @@ use mathlib.Core.Bool.{Bool, true, false, cond, _&&_}
 use mathlib.Core.List.{List, [], _∷_}
 use mathlib.Core.Option.{some}
 use Prim.Native.Nat.{ℕ, zero, suc, _+_, _-_, _*_, _^_, _≤_, _<_}
-use native.Mathlib.Nat.{pow-suc, one-le-pow, mul-le-mul-left, mul-le-mul-right}
+use native.Mathlib.Nat.{pow-suc, one-le-pow, mul-le-mul-left}
 use native.Mathlib.Omega.{arith}
 use borrow.Author.Tests.{lt-ltb, ltb-true}
 use lib.Dec.{eqb, leb, ltb, lit<}
-use lib.ListN.{length, take, drop, length-drop}
-use lib.Seq.{getD-drop}
+use lib.ListN.{length, drop, length-drop}
 use Rattle.model.specs.declared.delta_snapshot.Retention.the-variants.{IdleBlocks}
-use Rattle.model.specs.Numbers.{num-from, Bytes}
+use Rattle.model.specs.Numbers.{Bytes}
 use Rattle.model.specs.Slots.{identified}
-use Rattle.model.specs.Entries.{number-at, u256-at, address-of, slot-of, write-of}
+use Rattle.model.specs.Entries.{u256-at, address-of, slot-of, write-of}
 use Rattle.model.specs.Advance.{Write}
 use Rattle.model.specs.Reads.{Member}
 use Rattle.model.specs.Store.{AnchoredCall, look, get, put, read, answer, answer-failed, install, advance, at-anchor, Call, open-store, on-store}
 use Rattle.model.proofs.SlotLaws.{and-left, and-right, and-intro}
-use Rattle.image.specs.WellFormed.{fits-64, u256-fits, address-fits, slot-fits, anchor-fits, retention-fits}
+use Rattle.image.specs.WellFormed.{fits-64, u256-fits, slot-fits, anchor-fits, retention-fits}
 use Rattle.image.specs.Claims.{outcome-fits, writes-fit, members-fit, anchored-fits, call-fits}
+use Rattle.model.proofs.EntryLaws.{bytes-tail, bytes-drop, bytes-take}
+use Rattle.image.proofs.EntriesFit.{u256-at-fits, slot-of-fits}
 use Rattle.call_list.specs.CallList.{Parsed, parsed, fault, then, number-from, parse-number, parse-bytes, parse-form, parse-entries, parse-list, parse-u256, parse-address, parse-slot, parse-write, parse-outcome, parse-member, parse-hash, parse-anchor, parse-retention, parse-limits, parse-open, parse-install, parse-advance, parse-anchored, parse-with-slot, parse-put, parse-take, parse-round, parse-answer, CodeEntry, entry, code-table, parse-of, parse-call}
 
 -- Parsers in general ----------------------------------------------------------------------------------
@@ -76,18 +77,6 @@ Fits n = fits-64 n ≡ true
 below-fits : (n : ℕ) → n < 2 ^ 64 → Fits n
 below-fits n h = lt-ltb n (2 ^ 64) h
 
--- The bytes after the first, from a place on, and the first ones.
-bytes-tail : (x : ℕ) (l : List ℕ) → Bytes (x ∷ l) → Bytes l
-bytes-tail x l b = λ j. b (suc j)
-
-bytes-drop : (k : ℕ) (l : List ℕ) → Bytes l → Bytes (drop k l)
-bytes-drop k l b = λ j. rw getD-drop (b (k + j))
-
-bytes-take : (k : ℕ) (l : List ℕ) → Bytes l → Bytes (take k l)
-bytes-take zero l b = λ j. lit< tt
-bytes-take (suc k) [] b = b
-bytes-take (suc k) (x ∷ l) b = λ j. elim j [ zero ↦ b 0 | suc i ↦ bytes-take k l (bytes-tail x l b) i ]
-
 -- A group of a number that others may follow is worth at most 2^56, and the tenth group 2^63.
 worth-next : (k w : ℕ) → w * 128 ^ suc k ≡ 2 ^ 63 → w * 128 * 128 ^ k ≡ 2 ^ 63
 worth-next k w e = let p : w * (128 ^ k * 128) ≡ 2 ^ 63 = rw (pow-suc 128 k) at e in omega arith
@@ -135,35 +124,7 @@ unfolding parse-form
 good-form [] b = after-fault
 good-form (x ∷ l) b = after-cond (ltb 1 x) (λ t. after-fault) (λ t. after-parsed {r = l} tt (bytes-tail x l b) (omega arith))
 
--- The number that n bytes give is below 256^n.
-num-from-below : (n a : ℕ) (l : List ℕ) → Bytes l → num-from a (take n l) < suc a * 256 ^ n
-unfolding num-from
-num-from-below zero a l b = omega arith
-num-from-below (suc n) a [] b =
-    let p : suc a * 1 ≤ suc a * 256 ^ suc n = mul-le-mul-left (suc a) (one-le-pow (suc n) 256 (lit< tt)) in
-    omega arith
-num-from-below (suc n) a (x ∷ l) b =
-    let p : num-from (a * 256 + x) (take n l) < suc (a * 256 + x) * 256 ^ n = num-from-below n (a * 256 + x) l (bytes-tail x l b) in
-    let q : suc (a * 256 + x) * 256 ^ n ≤ (suc a * 256) * 256 ^ n = mul-le-mul-right (256 ^ n) (omega (arith, b 0)) in
-    rw pow-suc (omega arith)
-
-below : (i n : ℕ) (b : List ℕ) → Bytes b → number-at i n b < 256 ^ n
-below i n b f = omega (arith, num-from-below n 0 (drop i b) (bytes-drop i b f))
-
 -- Parts of calls --------------------------------------------------------------------------------------
-
-word-fits : (i : ℕ) (b : List ℕ) → Bytes b → Fits (number-at i 8 b)
-word-fits i b f = below-fits (number-at i 8 b) (below i 8 b f)
-
-u256-at-fits : (i : ℕ) (b : List ℕ) → Bytes b → u256-fits (u256-at i b) ≡ true
-u256-at-fits i b f = and-intro _ _ (word-fits i b f) (and-intro _ _ (word-fits (i + 8) b f) (and-intro _ _ (word-fits (i + 16) b f) (word-fits (i + 24) b f)))
-
-address-of-fits : (b : List ℕ) → Bytes b → address-fits (address-of b) ≡ true
-address-of-fits b f = and-intro _ _ (lt-ltb (number-at 0 4 b) (2 ^ 32) (below 0 4 b f)) (and-intro _ _ (word-fits 4 b f) (word-fits 12 b f))
-
-slot-of-fits : (b : List ℕ) → Bytes b → slot-fits (slot-of b) ≡ true
-unfolding slot-fits
-slot-of-fits b f = and-intro _ _ (address-of-fits b f) (u256-at-fits 20 b f)
 
 good-u256 : Good (λ x. u256-fits x ≡ true) parse-u256
 good-u256 = good-map (u256-at 0) (good-bytes 32) (u256-at-fits 0)

@@ -1,2 +1,2 @@
--- The run of a call list on lent bytes.
+-- The calls of a call list on lent bytes.
 pub mod Runs

@@ -1,2 +1,2 @@
--- What a run's answer says of its output and of the next place.
+-- What a run's answer says of the part of the listing that it makes.
 pub mod Parts

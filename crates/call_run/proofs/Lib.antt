@@ -1,7 +1,9 @@
 -- Laws of the run of a call list.
 pub mod Read
-pub mod Left
+pub mod Texts
+pub mod Reached
+pub mod Room
 pub mod Running
-pub mod Went
-pub mod Going
+pub mod Ends
+pub mod Once
 pub mod Program

@@ -4,7 +4,7 @@ use mathlib.Core.Path.{_≡_, sym, ap, subst, _∙_}
 use mathlib.Core.List.{List}
 use native.Mathlib.Omega.{arith}
 use lib.ListN.{length, drop}
-use Rattle.call_list.specs.CallList.{parsed, fault, parse-call}
+use Rattle.call_list.specs.CallList.{parsed, parse-call}
 use Rattle.reader.specs.declared.Cursor.{Cursor}
 use Rattle.reader.specs.Answers.{Reading}
 use Rattle.call_reader.specs.declared.ListedCall.{ListedCall}
@@ -12,6 +12,7 @@ use Rattle.call_reader.specs.declared.CallRead.{CallRead}
 use Rattle.call_reader.specs.declared.CallRead.the-variants.{Value, Fault}
 use Rattle.call_reader.specs.Calls.{call-of, call-answer, call-next, call-progress, call-spans}
 use Rattle.call_steps.specs.Steps.{CallThere}
+use Rattle.call_run.specs.Run.{FaultAt}
 
 -- What `read_call` says of its answer.
 abbrev pub ReadCall : List ℕ → ℕ → CallRead → Type 0
@@ -36,10 +37,7 @@ module _ (list : List ℕ) (at : ℕ) {r : CallRead} (h : ReadCall list at r) wh
 
   -- A fault.
   module _ {n : ℕ} {c : Cursor} (e : r ≡ Fault n c) where
-    pub fault-parse : fault n (drop (c .at) list) ≡ parse-call (drop at list)
-    fault-parse = sym (ap (call-answer list) e) ∙ h .0 .means
-
-    pub fault-place : (at ≤ c .at) × (c .at ≤ length list)
-    fault-place =
+    pub fault-at : at < length list → FaultAt list at n (c .at)
+    fault-at k =
         let m : call-next r ≡ c .at = ap call-next e in
-        (omega (arith, h .0 .forward), omega (arith, h .0 .within))
+        record { there = k; fault-is = sym (h .0 .means) ∙ ap (call-answer list) e; forward = omega (arith, h .0 .forward); within = omega (arith, h .0 .within) }

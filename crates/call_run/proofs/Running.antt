@@ -1,45 +1,49 @@
--- Runs of calls: no call, one call, and a run after another. Assumes nothing.
-use Prim.Native.Nat.{ℕ, _+_, _-_, _*_, _/_, _≤_, _<_}
-use mathlib.Core.Path.{_≡_, refl, sym, ap, ap₂, _∙_}
-use mathlib.Core.Bool.{Bool, true, false}
-use mathlib.Core.List.{List, _++_, append-assoc, append-nil}
-use mathlib.Core.Option.{some}
+-- Runs of calls: no call, one call, a fault, and a run after another. Assumes nothing.
+use Prim.Native.Nat.{ℕ, _+_, _/_, _≤_, _<_}
+use mathlib.Core.Path.{_≡_, refl, sym, ap, ap₂, subst, _∙_}
+use mathlib.Core.Bool.{true, false}
+use mathlib.Core.List.{List, [], _∷_, _++_, append-assoc, append-nil}
 use native.Mathlib.Omega.{arith}
 use borrow.Author.Tests.{leb-false, le-leb}
 use lib.Dec.{leb}
-use lib.ListN.{length, take, drop, length-drop, drop-of-length-le}
-use lib.Seq.{take-take, drop-drop, length-take-le}
+use lib.ListN.{length, take, drop}
+use lib.Seq.{take-take}
 use Rattle.model.specs.Layers.{is-some}
 use Rattle.model.specs.Numbers.{Bytes}
 use Rattle.model.specs.Store.{Call}
-use Rattle.image.specs.Image.{decode, BytesResult, bytes-step}
+use Rattle.image.specs.Image.{decode, BytesResult, bytes-step, bytes-final}
 use Rattle.words.proofs.Places.{placed-length}
-use Rattle.call_list.specs.CallList.{parsed, fault, parse-call, call-list}
-use Rattle.call_list.specs.Listing.{answer-lines, refusal-line}
-use Rattle.call_laws.specs.Runs.{bytes-listing, bytes-after-list}
+use Rattle.call_list.specs.CallList.{parsed, fault, parse-call}
+use Rattle.call_list.specs.Listing.{answer-lines, end-line, refusal-line}
+use Rattle.call_laws.specs.Runs.{lent-each}
+use Rattle.model.proofs.EntryLaws.{bytes-drop}
 use Rattle.call_laws.proofs.Parses.{ReadOn, parsed-call}
-use Rattle.call_laws.proofs.Calls.{call-list-next, call-list-fault}
-use Rattle.call_laws.proofs.Listing.{listing-fault, listing-next, after-end, after-next}
+use Rattle.call_laws.proofs.Listing.{bytes-lines, final-none, final-one, final-then, lines-none, lines-one, lines-then}
 use Rattle.listing.specs.Lines.{Written}
 use Rattle.listing.proofs.Placing.{written-as}
 use Rattle.listing.proofs.Lengths.{refusal-line-length}
 use Rattle.call_answers.specs.declared.CallAnswer.{CallAnswer}
-use Rattle.call_answers.specs.Answers.{call-answer, slots-listed, lines-of}
-use Rattle.call_answers.proofs.Lines.{lines-are, lines-length}
+use Rattle.call_answers.specs.Answers.{lines-of}
+use Rattle.call_answers.proofs.Lines.{lines-are}
 use Rattle.call_steps.specs.Steps.{with-lent, SteppedAs, store-after}
 use Rattle.call_steps.proofs.After.{store-after-is, answer-room}
 use Rattle.call_run.specs.declared.Progress.{Progress}
-use Rattle.call_run.specs.Run.{listing-left, bytes-left, RunAt, RunOn}
-use Rattle.call_run.proofs.Left.{bytes-drop, listing-left-is, bytes-left-is, placed-text, placed-before, placed-rest, part-then}
+use Rattle.call_run.specs.Run.{call-lines, CallsTo, no-call, call-then, FaultAt}
+use Rattle.call_run.specs.Inner.{RunAt, fault-met, Reached, RunOn}
+use Rattle.call_run.proofs.Texts.{placed-text, placed-before, placed-rest, part-none, part-then, later}
+use Rattle.call_run.proofs.Reached.{calls-then, reached-next, reached-fault, no-end, no-fault}
+use Rattle.call_run.proofs.Room.{lines-fit-lent}
 
 -- No call.
-pub ran-none : (w e : ℕ) (list b out : List ℕ) (t : Progress) → RunAt t list b out → RunOn w e list t b out t b out
-ran-none w e list b out t h =
+pub ran-none : (w e : ℕ) (list b out : List ℕ) (t : Progress) → RunAt t list b out → t .broken ≡ false → RunOn w e list t b out t b out
+ran-none w e list b out t h g =
     record {
-      lines-are =
-          let n : length (take (t .at) out) ≤ t .at = omega (arith, length-take-le (t .at) out (h .room)) in
-          ap (λ (x : List ℕ). x ++ listing-left w e list b (t .next) (t .ended)) (drop-of-length-le (take (t .at) out) n);
-      bytes-are = refl;
+      to = t .next;
+      calls = [];
+      calls-are = no-call;
+      reached = reached-next list t g;
+      bytes-are = sym (final-none w e b);
+      text-is = part-none (t .at) out (h .room) ∙ sym (ap₂ (λ (x y : List ℕ). x ++ y) (lines-none w e b) (no-end t g));
       now-at = h;
       same-length = refl;
       further = omega arith;
@@ -47,25 +51,29 @@ ran-none w e list b out t h =
       rest-is = refl;
     }
 
-later : (m n : ℕ) (x y : List ℕ) → m ≤ n → drop m x ≡ drop m y → drop n x ≡ drop n y
-later m n x y h d =
-    let e : m + (n - m) ≡ n = omega arith in
-    ap (λ (k : ℕ). drop k x) (sym e) ∙ sym (drop-drop (n - m) m x) ∙ ap (drop (n - m)) d ∙ drop-drop (n - m) m y ∙ ap (λ (k : ℕ). drop k y) e
-
--- A run after another.
+-- A run after another that has not ended.
 pub ran-then : (w e : ℕ) (list b out : List ℕ) (t : Progress) (b1 out1 : List ℕ) (r : Progress) (b2 out2 : List ℕ) (q : Progress)
-    → RunOn w e list t b out r b1 out1 → RunOn w e list r b1 out1 q b2 out2 → RunOn w e list t b out q b2 out2
-ran-then w e list b out t b1 out1 r b2 out2 q u v =
+    → RunOn w e list t b out r b1 out1 → r .ended ≡ false → RunOn w e list r b1 out1 q b2 out2 → RunOn w e list t b out q b2 out2
+ran-then w e list b out t b1 out1 r b2 out2 q u go v =
+    let g : r .broken ≡ false = no-fault r (u .reached) go in
+    let cs : List Call = u .calls in
+    let ds : List Call = v .calls in
+    let end : List ℕ = end-line (fault-met q) in
+    let mid : List ℕ = bytes-final b (lent-each w e cs) in
+    let first : drop (t .at) (take (r .at) out2) ≡ bytes-lines w e b cs =
+    ap (drop (t .at)) (v .before-is) ∙ u .text-is ∙ ap (λ (x : List ℕ). bytes-lines w e b cs ++ x) (no-end r g) ∙ append-nil (bytes-lines w e b cs) in
+    let second : drop (r .at) (take (q .at) out2) ≡ bytes-lines w e mid ds ++ end = v .text-is ∙ ap (λ (x : List ℕ). bytes-lines w e x ds ++ end) (u .bytes-are) in
     record {
-      lines-are =
-          let rest : List ℕ = listing-left w e list b2 (q .next) (q .ended) in
-          let x : drop (t .at) (take (q .at) out2) ≡ drop (t .at) (take (r .at) out2) ++ drop (r .at) (take (q .at) out2) =
-          part-then (t .at) (r .at) (q .at) out2 (u .further) (v .further) (v .now-at .room) in
-          ap (λ (y : List ℕ). y ++ rest) x
-          ∙ append-assoc (drop (t .at) (take (r .at) out2)) (drop (r .at) (take (q .at) out2)) rest
-          ∙ ap₂ (λ (y z : List ℕ). drop (t .at) y ++ z) (v .before-is) (v .lines-are)
-          ∙ u .lines-are;
-      bytes-are = v .bytes-are ∙ u .bytes-are;
+      to = v .to;
+      calls = cs ++ ds;
+      calls-are = calls-then (subst (λ (x : ℕ). CallsTo list (t .next) x cs) (u .reached .whole g) (u .calls-are)) (v .calls-are);
+      reached = v .reached;
+      bytes-are = v .bytes-are ∙ ap (λ (x : List ℕ). bytes-final x (lent-each w e ds)) (u .bytes-are) ∙ sym (final-then w e b cs ds);
+      text-is =
+          part-then (t .at) (r .at) (q .at) out2 (u .further) (v .further) (v .now-at .room)
+          ∙ ap₂ (λ (x y : List ℕ). x ++ y) first second
+          ∙ sym (append-assoc (bytes-lines w e b cs) (bytes-lines w e mid ds) end)
+          ∙ ap (λ (x : List ℕ). x ++ end) (sym (lines-then w e b cs ds));
       now-at = v .now-at;
       same-length = v .same-length ∙ u .same-length;
       further = omega (arith, u .further, v .further);
@@ -77,23 +85,23 @@ ran-then w e list b out t b1 out1 r b2 out2 q u v =
       rest-is = v .rest-is ∙ later (r .at) (q .at) out1 out (v .further) (u .rest-is);
     }
 
--- A text that was written, where it and what is left are what was left.
-ran-text : (w e : ℕ) (list b out : List ℕ) (t : Progress) (after out-after : List ℕ) (r : Progress) (text : List ℕ)
-    → Written (t .at) text out out-after (r .at) → t .at + length text ≤ length out → t .ended ≡ false
-    → text ++ listing-left w e list after (r .next) (r .ended) ≡ bytes-listing w e b (call-list (drop (t .next) list))
-    → bytes-left w e list after (r .next) (r .ended) ≡ bytes-after-list w e b (call-list (drop (t .next) list))
+-- A text that was written for calls.
+ran-text : (w e : ℕ) (list b out : List ℕ) (t : Progress) (after out-after : List ℕ) (r : Progress) (text : List ℕ) (to : ℕ) (cs : List Call)
+    → Written (t .at) text out out-after (r .at) → t .at + length text ≤ length out
+    → CallsTo list (t .next) to cs → Reached list to r
+    → after ≡ bytes-final b (lent-each w e cs) → text ≡ bytes-lines w e b cs ++ end-line (fault-met r)
     → r .known ≡ is-some (decode after) → r .ended ≡ leb (length list) (r .next)
     → RunOn w e list t b out r after out-after
-ran-text w e list b out t after out-after r text wr h go lines bytes known ended =
+ran-text w e list b out t after out-after r text to cs wr h calls reached bytes lines known ended =
     let n : length out-after ≡ length out = ap length (wr .bytes) ∙ placed-length (t .at) text out h in
     let p = wr .next-place in
     record {
-      lines-are =
-          ap₂ (λ (k : ℕ) (x : List ℕ). drop (t .at) (take k x) ++ listing-left w e list after (r .next) (r .ended)) p (wr .bytes)
-          ∙ ap (λ (x : List ℕ). x ++ listing-left w e list after (r .next) (r .ended)) (placed-text (t .at) text out h)
-          ∙ lines
-          ∙ ap (λ (x : Bool). listing-left w e list b (t .next) x) (sym go);
-      bytes-are = bytes ∙ ap (λ (x : Bool). bytes-left w e list b (t .next) x) (sym go);
+      to = to;
+      calls = cs;
+      calls-are = calls;
+      reached = reached;
+      bytes-are = bytes;
+      text-is = ap₂ (λ (k : ℕ) (x : List ℕ). drop (t .at) (take k x)) p (wr .bytes) ∙ placed-text (t .at) text out h ∙ lines;
       now-at = record { known-is = known; ended-is = ended; room = omega arith };
       same-length = n;
       further = omega arith;
@@ -105,54 +113,44 @@ ran-text w e list b out t after out-after r text wr h go lines bytes known ended
 pub not-ended : (list b out : List ℕ) (t : Progress) → RunAt t list b out → t .ended ≡ false → t .next < length list
 not-ended list b out t h go = leb-false (length list) (t .next) (sym (h .ended-is) ∙ go)
 
--- The lines of a call fit.
-pub call-lines : (w : ℕ) (entries b : List ℕ) (c : Call) (a : CallAnswer) (after entries-after : List ℕ) → SteppedAs a after entries-after (bytes-step b (with-lent c w entries)) entries
-    → (slots-listed a ≤ 64) × (slots-listed a * 52 ≤ length entries)
-call-lines w entries b c a after entries-after s =
-    let m = answer-room b c w entries in
-    let n : slots-listed a ≡ slots-listed (call-answer (bytes-step b (with-lent c w entries) .answer)) = ap slots-listed (s .answer-is) in
-    (omega (arith, m .few), omega (arith, m .held))
-
 -- A call.
 pub ran-call : (w : ℕ) (entries list b out : List ℕ) (t : Progress) (after out-after : List ℕ) (r : Progress) (c : Call) (a : CallAnswer) (entries-after : List ℕ)
-    → Bytes list → RunAt t list b out → t .ended ≡ false → t .at + 7237 ≤ length out
-    → parsed c (drop (r .next) list) ≡ parse-call (drop (t .next) list)
+    → Bytes list → RunAt t list b out → t .at + call-lines ≤ length out
+    → parsed c (drop (r .next) list) ≡ parse-call (drop (t .next) list) → (t .next < r .next) × (r .next ≤ length list)
     → SteppedAs a after entries-after (bytes-step b (with-lent c w entries)) entries
     → Written (t .at) (lines-of a entries-after) out out-after (r .at)
-    → r .known ≡ store-after (t .known) a → r .ended ≡ leb (length list) (r .next)
+    → r .known ≡ store-after (t .known) a → r .ended ≡ leb (length list) (r .next) → r .broken ≡ false
     → RunOn w (length entries / 52) list t b out r after out-after
-ran-call w entries list b out t after out-after r c a entries-after f h go room parse s wr known ended =
+ran-call w entries list b out t after out-after r c a entries-after f h room parse on s wr known ended whole =
     let e : ℕ = length entries / 52 in
     let o : BytesResult = bytes-step b (with-lent c w entries) in
-    let l : List ℕ = drop (r .next) list in
     let m = answer-room b c w entries in
-    let g = bytes-drop (t .next) list f in
-    let q : ReadOn c l (drop (t .next) list) = parsed-call (drop (t .next) list) c l g (sym parse) in
-    let calls = call-list-next (drop (t .next) list) c l g (sym parse) in
+    let q : ReadOn c (drop (r .next) list) (drop (t .next) list) = parsed-call (drop (t .next) list) c (drop (r .next) list) (bytes-drop (t .next) list f) (sym parse) in
     let text : lines-of a entries-after ≡ answer-lines (o .answer) = ap₂ (λ (x : CallAnswer) (y : List ℕ). lines-of x y) (s .answer-is) (s .entries-is) ∙ lines-are (o .answer) entries (m .fit) in
-    let fit : t .at + length (answer-lines (o .answer)) ≤ length out = omega (arith, lines-length a entries-after, call-lines w entries b c a after entries-after s .0, ap length text) in
-    let left : listing-left w e list after (r .next) (r .ended) ≡ bytes-listing w e (o .bytes) (call-list l) =
-    listing-left-is w e list after (r .next) (r .ended) ended ∙ ap (λ (x : List ℕ). bytes-listing w e x (call-list l)) (s .bytes-is) in
-    let bytes : bytes-left w e list after (r .next) (r .ended) ≡ bytes-after-list w e (o .bytes) (call-list l) =
-    bytes-left-is w e list after (r .next) (r .ended) ended ∙ ap (λ (x : List ℕ). bytes-after-list w e x (call-list l)) (s .bytes-is) in
-    ran-text w e list b out t after out-after r (answer-lines (o .answer)) (written-as wr text) fit go
-    (ap (λ (x : List ℕ). answer-lines (o .answer) ++ x) left ∙ sym (ap (bytes-listing w e b) calls ∙ listing-next w e b c (call-list l)))
-    (bytes ∙ sym (ap (bytes-after-list w e b) calls ∙ after-next w e b c (call-list l)))
+    ran-text w e list b out t after out-after r (answer-lines (o .answer)) (r .next) (c ∷ []) (written-as wr text) (omega (arith, lines-fit-lent b c w entries))
+    (call-then (sym parse) (on .0) (on .1) no-call)
+    (reached-next list r whole)
+    (s .bytes-is ∙ sym (final-one w e b c))
+    (sym (ap₂ (λ (x y : List ℕ). x ++ y) (lines-one w e b c) (no-end r whole) ∙ append-nil (answer-lines (o .answer))))
     (known ∙ ap₂ store-after (h .known-is) (s .answer-is) ∙ sym (store-after-is b (with-lent c w entries) (q .fits)) ∙ ap (λ (x : List ℕ). is-some (decode x)) (sym (s .bytes-is)))
     ended
 
 -- A fault, which ends the list.
 pub ran-fault : (w e : ℕ) (list b out : List ℕ) (t : Progress) (out-after : List ℕ) (n place at : ℕ)
-    → RunAt t list b out → t .ended ≡ false → t .at + 7237 ≤ length out
-    → fault n (drop place list) ≡ parse-call (drop (t .next) list)
+    → RunAt t list b out → t .at + call-lines ≤ length out → FaultAt list (t .next) n place
     → Written (t .at) (refusal-line n) out out-after at
     → RunOn w e list t b out (record { next = length list; at = at; known = t .known; ended = true; broken = true; fault = n; place = place }) b out-after
-ran-fault w e list b out t out-after n place at h go room parse wr =
-    let k : 0 < length (drop (t .next) list) = omega (arith, length-drop (t .next) list, not-ended list b out t h go) in
-    let calls = call-list-fault (drop (t .next) list) n (drop place list) k (sym parse) in
+ran-fault w e list b out t out-after n place at h room f wr =
     let r : Progress = record { next = length list; at = at; known = t .known; ended = true; broken = true; fault = n; place = place } in
-    ran-text w e list b out t b out-after r (refusal-line n) wr (omega (arith, refusal-line-length n)) go
-    (append-nil (refusal-line n) ∙ sym (ap (bytes-listing w e b) calls ∙ listing-fault w e b n))
-    (sym (ap (bytes-after-list w e b) calls ∙ after-end w e b (some n)))
+    ran-text w e list b out t b out-after r (refusal-line n) (t .next) [] wr (omega (arith, refusal-line-length n))
+    no-call
+    (reached-fault list (t .next) r f refl refl)
+    (sym (final-none w e b))
+    (sym (ap (λ (x : List ℕ). x ++ refusal-line n) (lines-none w e b)))
     (h .known-is)
     (sym (le-leb (length list) (length list) (omega arith)))
+
+-- The areas keep their lengths.
+pub same-lent : (w w1 n n1 : ℕ) (list b out : List ℕ) (t : Progress) (b1 out1 : List ℕ) (r : Progress) → w1 ≡ w → n1 ≡ n → RunOn w1 (n1 / 52) list t b out r b1 out1 → RunOn w (n / 52) list t b out r b1 out1
+same-lent w w1 n n1 list b out t b1 out1 r d e u =
+    subst (λ (x : ℕ). RunOn x (n / 52) list t b out r b1 out1) d (subst (λ (x : ℕ). RunOn w1 (x / 52) list t b out r b1 out1) e u)

@@ -1,79 +1,63 @@
 -- The run of a call list from a place on, as far as an output goes.
 use Prim.Native.Nat.{ℕ, _+_, _*_, _/_, _≤_, _<_}
 use mathlib.Core.Path.{_≡_}
-use mathlib.Core.Bool.{Bool, true, false, _||_, cond}
-use mathlib.Core.List.{List, [], _++_}
+use mathlib.Core.Bool.{Bool, true, false, _||_}
+use mathlib.Core.List.{List, [], _∷_, _++_}
+use mathlib.Core.Option.{Option, some, none}
 use lib.Dec.{leb, ltb}
 use lib.ListN.{length, take, drop}
-use Rattle.model.specs.Layers.{is-some}
 use Rattle.model.specs.Store.{Call}
-use Rattle.image.specs.Image.{decode}
-use Rattle.call_list.specs.CallList.{parsed, fault, parse-call, call-list}
-use Rattle.call_laws.specs.Runs.{bytes-listing, bytes-after-list}
-use Rattle.call_run.specs.declared.Progress.{Progress}
+use Rattle.image.specs.Image.{BytesCall, bytes-step, bytes-trace, bytes-final}
+use Rattle.call_list.specs.CallList.{parsed, fault, parse-call}
+use Rattle.call_list.specs.Listing.{answer-lines, answers-lines, end-line}
+use Rattle.call_laws.specs.Runs.{lent-each}
 use Rattle.call_run.specs.declared.Ran.{Ran}
 use Rattle.call_run.specs.declared.Ran.the-variants.{No, Listed, Broken}
 
--- A lent area is too short: the output for the lines of one call, or the area for an answer's members, which a list has at most one of for each 53 bytes.
+-- The room that a run asks for a call's lines: 197 bytes, and 110 for each of the 64 slots that a take lists at most.
+abbrev pub call-lines : ℕ
+call-lines = 7237
+
+-- It is enough for the lines of every call.
+abbrev pub LinesFit : Type 0
+LinesFit = (b : List ℕ) (c : BytesCall) → length (answer-lines (bytes-step b c .answer)) ≤ call-lines
+
+-- A lent area is too short: the output for a call's lines, or the area for an answer's members, which a list has at most one of for each 53 bytes.
 abbrev pub too-short : List ℕ → List ℕ → List ℕ → Bool
-too-short list members out = ltb (length out) 7237 || ltb (length members) (length list / 53 * 85)
+too-short list members out = ltb (length out) call-lines || ltb (length members) (length list / 53 * 85)
 
--- What is left of the listing, and of what the list does to the bytes, at a place: nothing once the list has ended.
-abbrev pub listing-left : ℕ → ℕ → List ℕ → List ℕ → ℕ → Bool → List ℕ
-listing-left w e list b next ended = cond ended [] (bytes-listing w e b (call-list (drop next list)))
+-- The calls that a list reads as from a place to another.
+pub data CallsTo (list : List ℕ) : ℕ → ℕ → List Call → Type 0 where
+  no-call : {at : ℕ} → CallsTo list at at []
+  call-then : {from at next : ℕ} {c : Call} {cs : List Call}
+      → parse-call (drop from list) ≡ parsed c (drop at list) → from < at → at ≤ length list → CallsTo list at next cs → CallsTo list from next (c ∷ cs)
 
-abbrev pub bytes-left : ℕ → ℕ → List ℕ → List ℕ → ℕ → Bool → List ℕ
-bytes-left w e list b next ended = cond ended b (bytes-after-list w e b (call-list (drop next list)))
-
--- A run from a place to another: the listing is what was written and what is left; the bytes are as the calls performed leave them; the output past what was written is as it was.
-pub record RunTo (w e : ℕ) (list : List ℕ) (from : ℕ) (before out-before : List ℕ) (next written : ℕ) (ended : Bool) (after out-after : List ℕ) : Type 0 where
-  pub lines-are : bytes-listing w e before (call-list (drop from list)) ≡ take written out-after ++ listing-left w e list after next ended
-  pub bytes-are : bytes-after-list w e before (call-list (drop from list)) ≡ bytes-left w e list after next ended
-  pub same-length : length out-after ≡ length out-before
-  pub written-within : written ≤ length out-before
-  pub rest-is : drop written out-after ≡ drop written out-before
-  pub forward : ended ≡ false → (from < next) × (next < length list)
-
--- The places that a list's calls lead to from a place, one after the other.
-pub data CallsTo (list : List ℕ) (from : ℕ) : ℕ → Type 0 where
-  no-call : CallsTo list from from
-  one-more : {at next : ℕ} {c : Call} → CallsTo list from at → parse-call (drop at list) ≡ parsed c (drop next list) → at < next → next ≤ length list → CallsTo list from next
-
--- A list breaks off with fault n at a place: calls lead to one that the definition reads as this fault, at this place.
-pub record BreaksOff (list : List ℕ) (from n place : ℕ) : Type 0 where
-  pub at : ℕ
-  pub calls : CallsTo list from at
-  pub after : from ≤ at
+-- A list reads as a fault at a place: its number, and the place of its byte.
+pub record FaultAt (list : List ℕ) (at n place : ℕ) : Type 0 where
   pub there : at < length list
   pub fault-is : parse-call (drop at list) ≡ fault n (drop place list)
   pub forward : at ≤ place
   pub within : place ≤ length list
 
--- A run was refused with nothing changed, or went on to a place with no fault, or to the fault that ends the list.
+-- A run from a place to another: the calls performed are those that the list reads as between the two, and the bytes are as these calls leave them.
+-- The text written is the lines of their answers, and of the fault if one ended the list; the output past it is as it was.
+pub record RunTo (w e : ℕ) (list : List ℕ) (from next : ℕ) (ends-with : Option ℕ) (written : ℕ) (before out after out-after : List ℕ) : Type 0 where
+  pub calls : List Call
+  pub calls-are : CallsTo list from next calls
+  pub bytes-are : after ≡ bytes-final before (lent-each w e calls)
+  pub text-is : take written out-after ≡ answers-lines (bytes-trace before (lent-each w e calls)) ++ end-line ends-with
+  pub rest-is : drop written out-after ≡ drop written out
+  pub written-within : written ≤ length out
+  pub same-length : length out-after ≡ length out
+
+-- A run was refused with nothing changed; or it stopped at the list's end, or before it for want of room for another call's lines; or at a fault.
 abbrev pub RanAs : Ran → ℕ → ℕ → List ℕ → ℕ → List ℕ → List ℕ → List ℕ → List ℕ → List ℕ → Type 0
-RanAs (No n) w e list from members before out-before after out-after = (n ≡ 9) × (too-short list members out-before ≡ true) × (after ≡ before) × (out-after ≡ out-before)
-RanAs (Listed next written ended) w e list from members before out-before after out-after =
-    (too-short list members out-before ≡ false) × RunTo w e list from before out-before (next .at) written ended after out-after × CallsTo list from (next .at) × (ended ≡ leb (length list) (next .at))
-RanAs (Broken n place written) w e list from members before out-before after out-after =
-    (too-short list members out-before ≡ false) × RunTo w e list from before out-before (length list) written true after out-after × BreaksOff list from n (place .at)
-
--- Where a run is: the bytes are a store or not, the place of the next call, and the room that is left.
-pub record RunAt (t : Progress) (list b out : List ℕ) : Type 0 where
-  pub known-is : t .known ≡ is-some (decode b)
-  pub ended-is : t .ended ≡ leb (length list) (t .next)
-  pub room : t .at ≤ length out
-
--- How a run came there: past calls alone, or to the fault that ended the list.
-pub record Went (list : List ℕ) (from : ℕ) (t : Progress) : Type 0 where
-  pub whole : t .broken ≡ false → CallsTo list from (t .next)
-  pub stopped : t .broken ≡ true → (t .ended ≡ true) × BreaksOff list from (t .fault) (t .place)
-
--- One or more calls of a run, from one place to another: the text that was written at its place, what is left, and where the run is now.
-pub record RunOn (w e : ℕ) (list : List ℕ) (t : Progress) (before out-before : List ℕ) (r : Progress) (after out-after : List ℕ) : Type 0 where
-  pub lines-are : drop (t .at) (take (r .at) out-after) ++ listing-left w e list after (r .next) (r .ended) ≡ listing-left w e list before (t .next) (t .ended)
-  pub bytes-are : bytes-left w e list after (r .next) (r .ended) ≡ bytes-left w e list before (t .next) (t .ended)
-  pub now-at : RunAt r list after out-after
-  pub same-length : length out-after ≡ length out-before
-  pub further : t .at ≤ r .at
-  pub before-is : take (t .at) out-after ≡ take (t .at) out-before
-  pub rest-is : drop (r .at) out-after ≡ drop (r .at) out-before
+RanAs (No n) w e list from members before out after out-after = (n ≡ 9) × (too-short list members out ≡ true) × (after ≡ before) × (out-after ≡ out)
+RanAs (Listed next written ended) w e list from members before out after out-after =
+    (too-short list members out ≡ false)
+    × RunTo w e list from (next .at) none written before out after out-after
+    × (ended ≡ leb (length list) (next .at))
+    × (ended ≡ false → length out < written + call-lines)
+RanAs (Broken n place written) w e list from members before out after out-after =
+    (too-short list members out ≡ false)
+    × ((at : ℕ) × RunTo w e list from at (some n) written before out after out-after × FaultAt list at n (place .at))

@@ -1,15 +1,16 @@
-// The run of a call list: its calls one after the other, and their lines.
+// The run of a call list: its calls one after the other, and their lines. docs/REFERENCE.md describes it.
 ghost use mathlib.Core.Path.{_≡_};
 ghost use mathlib.Core.Bool.{false, not, _&&_};
 ghost use Prim.Native.Nat.{_+_, _-_, _*_, _/_, _≤_, _<_};
 ghost use lib.Dec.{leb};
 ghost use lib.ListN.{length};
-ghost use Rattle.call_run.specs.Run.{too-short, RanAs, RunAt, RunOn, Went};
+ghost use Rattle.call_run.specs.Run.{call-lines, LinesFit, too-short, RanAs};
+ghost use Rattle.call_run.specs.Inner.{RunAt, RunOn};
 ghost use Rattle.call_run.specs.Program.{ProgramPrints};
 use call_reader::CallRead;
 use reader::Cursor;
 
-// The bytes that the lines of one call can take: a take of 64 slots.
+// The room for a call's lines: 197 bytes, and 110 for each of the 64 slots that a take lists at most.
 pub const CALL_LINES: usize = 7237;
 
 // Where a run is: the next call's place in the list, the next line's in the output, whether the bytes are a store, whether the list has ended, whether a fault ended it, and that fault and its place.
@@ -40,10 +41,9 @@ fn run_call(
     members: &mut [u8],
     out: &mut [u8],
 ) -> Progress
-    requires { ⌜ RunAt t (now list) (now s) (now out) × (t .ended ≡ false) × (t .at + 7237 ≤ length (now out)) × (length (now list) / 53 * 85 ≤ length (now members)) ⌝ }
+    requires { ⌜ RunAt t (now list) (now s) (now out) × (t .ended ≡ false) × (t .at + call-lines ≤ length (now out)) × (length (now list) / 53 * 85 ≤ length (now members)) ⌝ }
     ensures run { λ r. ⌜ RunOn (length (now (work .entry))) (length (now (entries .entry)) / 52) (now (list .entry)) t (now (s .entry)) (now (out .entry)) r (now (s .exit)) (now (out .exit)) ⌝ }
     ensures forward { λ r. ⌜ (t .next < r .next) × (r .next ≤ length (now (list .entry))) ⌝ }
-    ensures went { λ r. ⌜ Went (now (list .entry)) (t .next) r ⌝ }
 {
     match call_reader::read_call(list, Cursor { at: t.next }) {
         CallRead::Value(call, after) => {
@@ -74,7 +74,7 @@ fn run_call(
 // Whether a run goes on: the list has not ended, and the output has room for the lines of another call.
 fn goes_on(t: Progress, out: &[u8]) -> bool
     requires { ⌜ t .at ≤ length (now out) ⌝ }
-    ensures { λ r. ⌜ r ≡ (not (t .ended) && leb 7237 (length (now (out .entry)) - t .at)) ⌝ }
+    ensures { λ r. ⌜ r ≡ (not (t .ended) && leb call-lines (length (now (out .entry)) - t .at)) ⌝ }
 {
     if t.ended {
         return false;
@@ -94,8 +94,7 @@ fn run_calls(
 ) -> Progress
     requires { ⌜ RunAt first (now list) (now s) (now out) × (first .broken ≡ false) × (length (now list) / 53 * 85 ≤ length (now members)) ⌝ }
     ensures run { λ r. ⌜ RunOn (length (now (work .entry))) (length (now (entries .entry)) / 52) (now (list .entry)) first (now (s .entry)) (now (out .entry)) r (now (s .exit)) (now (out .exit)) ⌝ }
-    ensures forward { λ r. ⌜ (first .at + 7237 ≤ length (now (out .entry)) → r .ended ≡ false → first .next < r .next) ⌝ }
-    ensures went { λ r. ⌜ Went (now (list .entry)) (first .next) r ⌝ }
+    ensures room { λ r. ⌜ (r .ended ≡ false → length (now (out .entry)) < r .at + call-lines) ⌝ }
 {
     let mut t = first;
     while goes_on(t, out) {
@@ -114,7 +113,7 @@ fn too_short(list: &[u8], members: &[u8], out: &[u8]) -> bool
     members.len() < list.len() / 53 * 85
 }
 
-// Runs a call list from a place on, until it ends or the output has no room for another call's lines. The bytes are checked once. What `work`, `entries` and `members` hold after it is free.
+// Runs a call list from a place on, until it ends, at a fault, or where the output has no room for another call's lines. The bytes are checked once. What `work`, `entries` and `members` hold after it is free.
 pub fn run(
     list: &[u8],
     from: Cursor,
@@ -145,7 +144,12 @@ pub fn run(
     Ran::Listed(Cursor { at: last.next }, last.at, last.ended)
 }
 
-// What runs of the program `calls` write is its output by the definition. The contract is what is claimed, so that the gate fails without the proof.
+// Every call's lines fit in `CALL_LINES` bytes. The contract is what is claimed, so that the gate fails without the proof.
+pub fn lines_fit()
+    ensures { λ _. ⌜ LinesFit ⌝ }
+{}
+
+// What runs of the program `calls` write is its output by the definition, pinned likewise.
 pub fn program_prints()
     ensures { λ _. ⌜ ProgramPrints ⌝ }
 {}

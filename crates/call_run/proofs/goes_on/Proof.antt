@@ -6,6 +6,7 @@ use mathlib.Core.Bool.{Bool, not, _&&_}
 use lib.Dec.{leb}
 use lib.ListN.{length}
 use denote.Ref.{now}
+use Rattle.call_run.specs.Run.{call-lines}
 use Rattle.call_run.proofs.goes_on.Statement.{statement}
 use Rattle.call_run.proofs.goes_on.Tie as tie
 
@@ -18,7 +19,7 @@ sub-result c = search needs
 returns-2 : tie.Need-returns-2
 returns-2 c =
     let st = c .before .before in
-    ap (λ (x : Bool). not x && leb 7237 (length (now (st .args .out)) - st .args .t .at)) (sym (c .before .if1 .left))
+    ap (λ (x : Bool). not x && leb call-lines (length (now (st .args .out)) - st .args .t .at)) (sym (c .before .if1 .left))
 
 pub goes-on-spec : {M : Type 1} → statement M
 goes-on-spec = tie.close (tie.spec returns sub-result returns-2)

@@ -6,8 +6,8 @@ use native.Mathlib.Omega.{arith}
 use lib.ListN.{length}
 use denote.Ref.{now}
 use Rattle.call_run.specs.Run.{too-short}
-use Rattle.call_run.proofs.Going.{long-enough, ran-to}
-use Rattle.call_run.proofs.Went.{ended-run}
+use Rattle.call_run.proofs.Room.{long-enough}
+use Rattle.call_run.proofs.Ends.{ran-calls, ran-broken}
 use borrow.Author.Needs.{needs}
 use Rattle.call_run.proofs.run.Statement.{statement}
 use Rattle.call_run.proofs.run.Tie as tie
@@ -60,13 +60,10 @@ returns-2 c =
     let p = c .before .before .before .before .before .before .before .before .before .before .before in
     let i = p .before .before .before .before .before .before .before in
     let n = i .before .before in
-    let a = n .before .before .before .before .before .before .before .before .before .before .args in
-    let b = p .run-calls .ensures .1 .1 .stopped (c .if2 .taken) in (
+    let a = n .before .before .before .before .before .before .before .before .before .before .args in (
       long n,
-      ended-run (length (now (a .work))) (length (now (a .entries)) / 52) (now (a .list)) (a .from .at) (now (a .s)) (now (a .out)) _ (length (now (a .list))) _ _ _ _ (b .0)
-          (ran-to (length (now (a .work))) (length (now (a .entries)) / 52) (now (a .list)) (now (a .s)) (now (a .out)) (a .from .at) (i .is-store .result) _ _ (p .run-calls .result)
-          (long-enough (now (a .list)) (now (a .members)) (now (a .out)) (long n) .0) (p .run-calls .ensures .0) (p .run-calls .ensures .1 .0)),
-      b .1,
+      ran-broken (length (now (a .work))) (length (now (a .entries)) / 52) (now (a .list)) (now (a .s)) (now (a .out)) (a .from .at) (i .is-store .result) _ _ (p .run-calls .result)
+          (p .run-calls .ensures .0) (c .if2 .taken),
     )
 
 same-length-8 : tie.Need-same-length-8
@@ -91,10 +88,10 @@ returns-3 c =
     let n = i .before .before in
     let a = n .before .before .before .before .before .before .before .before .before .before .args in (
       long n,
-      ran-to (length (now (a .work))) (length (now (a .entries)) / 52) (now (a .list)) (now (a .s)) (now (a .out)) (a .from .at) (i .is-store .result) _ _ (p .run-calls .result)
-          (long-enough (now (a .list)) (now (a .members)) (now (a .out)) (long n) .0) (p .run-calls .ensures .0) (p .run-calls .ensures .1 .0),
-      p .run-calls .ensures .1 .1 .whole (c .if2 .left),
+      ran-calls (length (now (a .work))) (length (now (a .entries)) / 52) (now (a .list)) (now (a .s)) (now (a .out)) (a .from .at) (i .is-store .result) _ _ (p .run-calls .result)
+          (p .run-calls .ensures .0) (c .if2 .left),
       p .run-calls .ensures .0 .now-at .ended-is,
+      p .run-calls .ensures .1,
     )
 
 pub run-spec : {M : Type 1} → statement M

@@ -8,9 +8,9 @@ use denote.Ref.{now}
 use Rattle.known.proofs.Segments.{known-bytes}
 use Rattle.listing.proofs.Lengths.{refusal-line-length}
 use Rattle.call_reader.specs.declared.CallRead.the-variants.{Value, Fault}
-use Rattle.call_run.proofs.Read.{ReadCall, value-parse, value-there, value-forward, fault-parse, fault-place}
-use Rattle.call_run.proofs.Running.{not-ended, call-lines, ran-call, ran-fault}
-use Rattle.call_run.proofs.Went.{went-call, went-fault}
+use Rattle.call_run.proofs.Read.{ReadCall, value-parse, value-there, value-forward, fault-at}
+use Rattle.call_run.proofs.Room.{slots-held}
+use Rattle.call_run.proofs.Running.{not-ended, ran-call, ran-fault}
 use Rattle.call_run.proofs.run_call.Statement.{statement}
 use Rattle.call_run.proofs.run_call.Tie as tie
 
@@ -45,7 +45,7 @@ answer-lines-requires : tie.Need-answer-lines-requires
 answer-lines-requires c κs =
     let p = c .before .before .before .before .before .before .before .before .before .before in
     let st = p .before .before .before .before .before .before .before .before .before .before .before .before .before .before .before in
-    let m = call-lines (length (now (st .args .work))) (now (st .args .entries)) (now (st .args .s)) _ (p .step .result) _ _ (p .step .ensures) in
+    let m = slots-held (length (now (st .args .work))) (now (st .args .entries)) (now (st .args .s)) _ (p .step .result) _ _ (p .step .ensures) in
     (omega (arith, m .1, c .before .before .before .before .before .entries .given), omega (arith, m .0, st .pre .2))
 
 known-after-requires : tie.Need-known-after-requires
@@ -85,9 +85,9 @@ returns c =
     let e = is-call ca in
     let f = value-forward (now (a .list)) (a .t .next) (read rc) e in (
       ran-call (length (now (a .work))) (now (a .entries)) (now (a .list)) (now (a .s)) (now (a .out)) (a .t) _ _ _ _ (p .step .result) _
-          (known-bytes (now (a .list)) (rc .before .before .before .before .before .before .shared-slice-known .given)) (st .pre .0) (st .pre .1) (st .pre .2)
-          (value-parse (now (a .list)) (a .t .next) (read rc) e) (p .step .ensures) (al .answer-lines .ensures) (c .before .known-after .ensures) refl,
-      (f, went-call (now (a .list)) (a .t .next) _ (value-parse (now (a .list)) (a .t .next) (read rc) e) (f .0) (f .1) refl),
+          (known-bytes (now (a .list)) (rc .before .before .before .before .before .before .shared-slice-known .given)) (st .pre .0) (st .pre .2)
+          (value-parse (now (a .list)) (a .t .next) (read rc) e) f (p .step .ensures) (al .answer-lines .ensures) (c .before .known-after .ensures) refl refl,
+      f,
     )
 
 same-length-6 : tie.Need-same-length-6
@@ -100,11 +100,10 @@ returns-2 c =
     let st = rc .before .before .before .before .before .before .before in
     let a = st .args in
     let e : rc .read-call .result ≡ Fault (n .n .given .0 .0) (n .n .given .0 .1 .0) = search needs in
-    let p = fault-parse (now (a .list)) (a .t .next) (read rc) e in
-    let f = fault-place (now (a .list)) (a .t .next) (read rc) e in (
+    let f = fault-at (now (a .list)) (a .t .next) (read rc) e (more st) in (
       ran-fault (length (now (a .work))) (length (now (a .entries)) / 52) (now (a .list)) (now (a .s)) (now (a .out)) (a .t) _ (n .n .given .0 .0) (n .n .given .0 .1 .0 .at) (c .before .before .refusal-line .result)
-          (st .pre .0) (st .pre .1) (st .pre .2) p (c .before .before .refusal-line .ensures),
-      ((more st, omega arith), went-fault (now (a .list)) (a .t .next) _ p (more st) (f .0) (f .1) refl refl),
+          (st .pre .0) (st .pre .2) f (c .before .before .refusal-line .ensures),
+      (more st, omega arith),
     )
 
 pub run-call-spec : {M : Type 1} → statement M

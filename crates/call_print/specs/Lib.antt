@@ -1,0 +1,2 @@
+-- The definitions that the contracts of `call_print` cite.
+pub mod Part
