@@ -37,6 +37,15 @@ impl Round {
             Self::Failed(slots) => slots.clone(),
         }
     }
+
+    /// The value that it has for a slot.
+    pub fn value_of(&self, slot: &Slot) -> Option<&StorageValue> {
+        let Self::Members(members) = self else {
+            return None;
+        };
+        let member = members.iter().find(|(named, _)| named == slot)?;
+        member.1.as_ref()
+    }
 }
 
 /// What an open asks for beside the capacity, unless it takes the defaults.
@@ -108,6 +117,16 @@ impl<'a> Reader<'a> {
     /// The next call, none at the end of the list, or the refusal that ends it.
     pub fn next_call(&mut self) -> Option<Parsed<Call>> {
         (self.at < self.bytes.len()).then(|| self.call())
+    }
+
+    /// Where the byte of the fault stands that `next_call` met last; for an end
+    /// inside a call, where the list ends.
+    pub fn fault_place(&self, refusal: u8) -> usize {
+        if refusal == CUT_SHORT {
+            self.bytes.len()
+        } else {
+            self.at - 1
+        }
     }
 
     fn call(&mut self) -> Parsed<Call> {

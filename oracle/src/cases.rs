@@ -1,5 +1,6 @@
 //! Lists written by hand: the whole case of document 01, small lists for
-//! points that it names, and lists at the limit of a list's bytes.
+//! points that it names, lists at the limit of a list's bytes, and lists for
+//! orders of refusals and for single rules that the lists before them miss.
 
 use crate::calls::{write_list, Advance, Call, Round, Shape, Write, LIST_LIMIT};
 use crate::sim::evm2::delta_snapshot::{Retention, Slot};
@@ -301,6 +302,226 @@ fn fullest() -> Vec<u8> {
         Call::Read(bare, slot(256)),
         seed(&[]),
     ])
+}
+
+/// Lists for orders of refusals, for faults of the bytes, and for single rules.
+/// They are recorded after all others.
+pub fn later_cases() -> Vec<(&'static str, Vec<u8>)> {
+    vec![
+        ("order-20", no_store()),
+        ("order-open", opens()),
+        ("order-8", named_twice()),
+        ("order-23", full_store()),
+        ("order-24", full_queue()),
+        ("cut-value", faulty(&cut_value())),
+        ("form-advance", faulty(&[3, 5, 2])),
+        ("form-take", faulty(&[8, 5, 2])),
+        ("form-answer", faulty(&[9, 5, 2])),
+        ("tenth-byte-2", faulty(&tenth_bytes())),
+        ("default-depth", default_depth()),
+        ("install-drops-awaiting", dropped_by_install()),
+        ("written-twice", written_twice()),
+        ("parts", two_parts()),
+        (
+            "limit-rest",
+            [list_of(LIST_LIMIT), installs(1_000)].concat(),
+        ),
+        ("code-10", faulty(&[10, 5, 0])),
+    ]
+}
+
+/// The calls that 6, 7, 8 and 21 turn down, without a store and with one.
+fn no_store() -> Vec<u8> {
+    let bare = ReadAnchor::at(5);
+    let refused = [
+        advance(bare, B256([0; 32]), 1, &[write(P, 1)], &[]),
+        advance(bare, B256([0; 32]), 4, &[], &[]),
+        Call::Answer(bare, Round::Failed(vec![P, P])),
+        Call::Answer(bare, Round::Members(vec![(P, None), (P, None)])),
+        Call::Look(bare, P),
+        Call::Take(bare),
+    ];
+    let calls = [&refused[..], &[open(1, 1, None)], &refused].concat();
+    write_list(&calls)
+}
+
+/// 1 before 2 and 9, 2 before 9, and the largest that is lent for.
+fn opens() -> Vec<u8> {
+    write_list(&[
+        open(4_097, 256, None),
+        open(4_097, 255, None),
+        open(0, 0, None),
+        open(257, 256, None),
+        open(257, 255, None),
+        open(256, 255, None),
+        Call::Install(ReadAnchor::at(1)),
+        open(4_096, 1, None),
+        Call::Install(ReadAnchor::at(1)),
+    ])
+}
+
+/// A slot named twice, before each refusal that comes later.
+fn named_twice() -> Vec<u8> {
+    let members =
+        |slots: &[Slot]| Round::Members(slots.iter().map(|slot| (*slot, Some(word(9)))).collect());
+    let failed = |slots: &[Slot]| Round::Failed(slots.to_vec());
+    let twice = |at: ReadAnchor| {
+        [
+            Call::Answer(at, members(&[P, P])),
+            Call::Answer(at, failed(&[P, Q, P])),
+        ]
+    };
+    let mut calls = vec![open(1, 1, None)];
+    calls.extend(twice(block(10))); // before 21
+    calls.push(Call::Install(block(10)));
+    calls.push(Call::Put(block(10), Q, word(1)));
+    calls.extend(twice(block(11))); // before 22
+    calls.extend(twice(block(10))); // before 26
+    calls.push(Call::Read(block(10), P));
+    calls.extend(twice(block(10)));
+    calls.push(Call::Take(block(10)));
+    calls.extend(twice(block(10))); // before 23
+    calls.push(Call::Answer(block(11), members(&[P])));
+    calls.push(Call::Answer(block(10), members(&[P, Q])));
+    calls.push(Call::Answer(block(10), members(&[P])));
+    calls.push(Call::Answer(block(10), failed(&[P])));
+    write_list(&calls)
+}
+
+/// 6, 22 and 26 before 23, and 23.
+fn full_store() -> Vec<u8> {
+    let both = [write(P, 2), write(Q, 3)];
+    let skipped = advance(block(11), block_hash(10), 1, &both, &[P.0, Q.0]);
+    write_list(&[
+        open(1, 1, None),
+        Call::Install(block(10)),
+        Call::Put(block(10), P, word(1)),
+        skipped,
+        linked(11, &both, &[P.0, Q.0]),
+        Call::Put(block(9), Q, word(2)),
+        Call::Put(block(10), Q, word(2)),
+        Call::Read(block(10), Q),
+        Call::Answer(block(10), valued(Q, 3)),
+        Call::Take(block(10)),
+        Call::Answer(block(9), valued(Q, 3)),
+        Call::Answer(block(10), valued(Q, 3)),
+        Call::Answer(block(10), Round::Members(vec![(Q, None)])),
+        linked(11, &[], &[]),
+        Call::Get(block(10), P),
+        Call::Get(block(11), P),
+        Call::Read(block(10), P),
+        Call::Read(block(11), P),
+        Call::Look(block(11), P),
+    ])
+}
+
+/// 22 before 24; the 65th slot; the 64th again; 64 slots taken and answered.
+fn full_queue() -> Vec<u8> {
+    let (bare, other) = (ReadAnchor::at(5), ReadAnchor::at(6));
+    let slot = |at: u8| (P.0, word(at));
+    let mut calls = vec![open(1, 1, None), Call::Install(bare)];
+    calls.extend((0..64).map(|at| Call::Read(bare, slot(at))));
+    calls.extend([
+        Call::Read(other, slot(64)),
+        Call::Read(bare, slot(64)),
+        Call::Read(bare, slot(63)),
+        Call::Take(bare),
+        Call::Answer(bare, Round::Failed((0..64).map(slot).collect())),
+    ]);
+    write_list(&calls)
+}
+
+/// Bytes that are no call, after an open store with a taken slot.
+fn faulty(bytes: &[u8]) -> Vec<u8> {
+    let bare = ReadAnchor::at(5);
+    let good = write_list(&[
+        open(4, 1, None),
+        Call::Install(bare),
+        Call::Read(bare, P),
+        Call::Take(bare),
+    ]);
+    [&good[..], bytes].concat()
+}
+
+/// An answer whose second member's value lacks its last byte.
+fn cut_value() -> Vec<u8> {
+    let members = vec![(Q, None), (P, Some(word(1)))];
+    let mut bytes = write_list(&[Call::Answer(ReadAnchor::at(5), Round::Members(members))]);
+    bytes.pop();
+    bytes
+}
+
+/// A number with a tenth byte of 1, and one with 2.
+fn tenth_bytes() -> Vec<u8> {
+    let nine = [0x80; 9];
+    [&[2][..], &nine, &[1, 0, 2], &nine, &[2, 0]].concat()
+}
+
+/// The ninth layer over the first folds: depth 8.
+fn default_depth() -> Vec<u8> {
+    let mut calls = vec![
+        Call::Open {
+            capacity: 4,
+            shape: None,
+        },
+        Call::Install(block(0)),
+        Call::Put(block(0), P, word(1)),
+    ];
+    calls.extend((1..=10).map(|number| linked(number, &[], &[])));
+    write_list(&calls)
+}
+
+/// Another anchor drops what awaits, taken or not; the same one does not.
+fn dropped_by_install() -> Vec<u8> {
+    let (here, there) = (ReadAnchor::at(5), ReadAnchor::at(6));
+    write_list(&[
+        open(4, 1, None),
+        Call::Install(here),
+        Call::Read(here, P),
+        Call::Take(here),
+        Call::Read(here, Q),
+        Call::Install(here),
+        Call::Install(there),
+        Call::Take(there),
+        Call::Answer(there, Round::Failed(vec![P])),
+        Call::Read(there, P),
+        Call::Take(there),
+        Call::Answer(there, valued(P, 1)),
+        Call::Read(there, P),
+    ])
+}
+
+/// A slot written twice in a list: a served one keeps its use, which lapses
+/// with the next block; one that is new has the child's number.
+fn written_twice() -> Vec<u8> {
+    let twice = [write(P, 2), write(Q, 3), write(P, 4), write(Q, 5)];
+    write_list(&[
+        open(8, 8, Some(1)),
+        Call::Install(block(10)),
+        Call::Put(block(10), P, word(1)),
+        linked(11, &twice, &[Q.0]),
+        Call::Look(block(11), P),
+        linked(12, &[], &[]),
+        Call::Look(block(12), P),
+        Call::Look(block(12), Q),
+    ])
+}
+
+/// A listing of more than one part of 58,299 bytes: a put in the first part is
+/// looked up in the second.
+fn two_parts() -> Vec<u8> {
+    let mut calls = vec![
+        open(1, 1, None),
+        Call::Install(block(10)),
+        Call::Put(block(10), P, word(1)),
+    ];
+    calls.extend(vec![Call::Take(ReadAnchor::at(6)); 9_800]);
+    calls.push(Call::Look(block(10), P));
+    write_list(&calls)
+}
+
+fn installs(count: usize) -> Vec<u8> {
+    write_list(&vec![Call::Install(ReadAnchor::at(7)); count])
 }
 
 /// A list of whole calls of so many bytes. A long list of addresses takes most

@@ -64,16 +64,44 @@ impl Driver {
         Some(&*self.store.as_ref()?.installed.as_ref()?.hub)
     }
 
-    /// The read totals of the installed generation.
+    /// The totals that the hub of the installed generation counts.
     pub fn stats(&self) -> Option<ReadHubStats> {
         Some(self.generation()?.read_stats())
     }
+
+    /// What became of the reads of the installed generation.
+    pub fn reads(&self) -> Option<Reads> {
+        Some(self.store.as_ref()?.installed.as_ref()?.reads())
+    }
 }
 
-/// The installed generation with its reads that have no answer yet.
+/// What became of a generation's reads, counted from their futures.
+#[derive(Clone, Copy, Debug, Default, PartialEq, Eq)]
+pub struct Reads {
+    /// Futures made.
+    pub accepted: usize,
+    /// Ready at the first poll.
+    pub served: usize,
+    /// Still pending.
+    pub waiting: usize,
+    /// Woken with a value.
+    pub valued: usize,
+    /// Woken with an error.
+    pub refused: usize,
+}
+
+/// A read that has no answer yet.
+struct Waiter {
+    slot: Slot,
+    read: DeltaRead<'static>,
+}
+
+/// The installed generation with its reads.
 struct Installed {
     /// Declared before `hub`, so that they are dropped before it.
-    waiters: Vec<DeltaRead<'static>>,
+    waiters: Vec<Waiter>,
+    /// The reads that have ended; those that wait are `waiters`.
+    ended: Reads,
     hub: Arc<DeltaHub>,
 }
 
@@ -81,22 +109,44 @@ impl Installed {
     fn new(hub: Arc<DeltaHub>) -> Self {
         Self {
             waiters: Vec::new(),
+            ended: Reads::default(),
             hub,
         }
     }
 
+    fn reads(&self) -> Reads {
+        Reads {
+            waiting: self.waiters.len(),
+            ..self.ended
+        }
+    }
+
     /// Start a read. It stays in this struct or ends before it.
-    fn read(&self, slot: &Slot) -> DeltaRead<'static> {
+    fn read(&mut self, slot: &Slot) -> DeltaRead<'static> {
+        self.ended.accepted += 1;
         // SAFETY: the hub is on the heap, held by the `Arc` beside the reads,
         // and outlives them.
         let hub: &'static DeltaHub = unsafe { &*Arc::as_ptr(&self.hub) };
         hub.read_storage_handle(slot.0, slot.1)
     }
 
-    /// Poll every waiter and yield how many woke.
-    fn poll_waiters(&mut self) -> usize {
+    /// Poll every waiter after an answer and count what it wakes with, which
+    /// has to be what the answer has for its slot. Yields how many woke.
+    fn poll_waiters(&mut self, round: &Round) -> usize {
         let before = self.waiters.len();
-        self.waiters.retain_mut(|read| poll(read).is_pending());
+        let ended = &mut self.ended;
+        self.waiters.retain_mut(|waiter| {
+            let Poll::Ready(outcome) = poll(&mut waiter.read) else {
+                return true;
+            };
+            assert!(round.slots().contains(&waiter.slot));
+            assert_eq!(outcome.as_ref().ok(), round.value_of(&waiter.slot));
+            match outcome {
+                Ok(_) => ended.valued += 1,
+                Err(_) => ended.refused += 1,
+            }
+            false
+        });
         before - self.waiters.len()
     }
 }
@@ -275,9 +325,12 @@ impl Store {
         let installed = self.installed.as_mut().expect("tested by 21");
         let mut read = installed.read(slot);
         match poll(&mut read) {
-            Poll::Ready(outcome) => Answer::Value(outcome.expect("a served read has a value")),
+            Poll::Ready(outcome) => {
+                installed.ended.served += 1;
+                Answer::Value(outcome.expect("a served read has a value"))
+            }
             Poll::Pending => {
-                installed.waiters.push(read);
+                installed.waiters.push(Waiter { slot: *slot, read });
                 let awaiting = reads::awaiting(installed.hub.read_hub(), slot);
                 Answer::Wait(awaiting.expect("the slot awaits").waiters)
             }
@@ -306,7 +359,7 @@ impl Store {
         };
         let installed = self.installed.as_mut().expect("tested by 21");
         let report = reads::settle_round(installed.hub.read_hub(), &slots, outcome);
-        let woken = installed.poll_waiters();
+        let woken = installed.poll_waiters(round);
         Answer::Round { report, woken }
     }
 
@@ -321,6 +374,10 @@ impl Store {
         // Every waiter is polled as soon as its slot is answered, so the layers
         // hold what the hub's memo holds, and the memo is never asked.
         assert_eq!(installed.hub.read_stats().memo_hits, 0);
+        assert_eq!(
+            reads::waiters(installed.hub.read_hub()),
+            installed.waiters.len()
+        );
         if let Some(breach) = layers::breach(&installed.hub) {
             panic!("not well formed: {breach}");
         }

@@ -3,12 +3,12 @@
 
 pub mod calls;
 pub mod cases;
+pub mod driver;
 pub mod finals;
 pub mod generate;
 pub mod listing;
 pub mod missing;
 pub mod record;
-pub mod driver;
 pub mod sweep;
 pub mod tally;
 

@@ -2,16 +2,17 @@
 //! detail lines that it leaves out.
 
 use crate::calls::{Call, Reader};
-use crate::driver::{advance_line, Answer, Refusal, Driver};
+use crate::driver::{advance_line, Answer, Driver, Refusal};
 use crate::sim::evm2::delta_snapshot::Slot;
 use alloy::primitives::StorageValue;
 use std::fmt::Write as _;
 
 /// One call of a list with its answer. A refusal of bytes that are no call has
-/// no call.
+/// no call, but the place of the fault.
 pub struct Step {
     pub call: Option<Call>,
     pub answer: Result<Answer, Refusal>,
+    pub fault_place: Option<usize>,
 }
 
 /// Run a list; `each` sees every step and the driver after it.
@@ -23,10 +24,12 @@ pub fn run(list: &[u8], mut each: impl FnMut(&Step, &Driver)) {
             Ok(call) => Step {
                 answer: driver.run(&call),
                 call: Some(call),
+                fault_place: None,
             },
             Err(refusal) => Step {
                 call: None,
                 answer: Err(refusal),
+                fault_place: Some(reader.fault_place(refusal)),
             },
         };
         each(&step, &driver);
@@ -51,13 +54,17 @@ pub fn detail(list: &[u8]) -> String {
         if let Ok(answer) = &step.answer {
             push_detail(&mut text, answer, driver);
         }
+        if let Some(place) = step.fault_place {
+            line(&mut text, &format!("at {place}"));
+        }
     });
     text
 }
 
 /// Whether a line of `detail` is one that the listing leaves out.
 pub fn is_detail_line(line: &str) -> bool {
-    line.starts_with("applied ") || line.starts_with("  slot ") || line.starts_with("stats ")
+    let words = ["applied ", "  slot ", "stats ", "reads ", "at "];
+    words.iter().any(|word| line.starts_with(word))
 }
 
 pub fn push_lines(text: &mut String, answer: &Result<Answer, Refusal>) {
@@ -100,6 +107,15 @@ fn push_detail(text: &mut String, answer: &Answer, driver: &Driver) {
             &format!(
                 "stats {} {} {} {}",
                 stats.coalesced, stats.rounds, stats.storage_members, stats.storage_member_errors
+            ),
+        );
+    }
+    if let Some(reads) = driver.reads() {
+        line(
+            text,
+            &format!(
+                "reads {} {} {} {} {}",
+                reads.accepted, reads.served, reads.waiting, reads.valued, reads.refused
             ),
         );
     }

@@ -6,7 +6,7 @@ use oracle::{finals, generate, listing, record, sweep};
 use std::collections::BTreeSet;
 use std::io::{self, BufWriter, Read, Write};
 use std::path::Path;
-use std::process::{Command, ExitCode, Stdio};
+use std::process::{Command, ExitCode, Output, Stdio};
 
 const USAGE: &str = "\
 oracle calls [--detail]               list on standard input, listing out
@@ -237,28 +237,32 @@ fn named_lists(words: &[&str]) -> io::Result<Named> {
     })
 }
 
-/// Run the program on every list; names those whose output differs.
+/// Run the program on every list; names those whose output differs, and those
+/// on which it ends with another status than 0.
 fn compare(
     out: &mut impl Write,
     program: &str,
     lists: Named,
     detailed: bool,
 ) -> io::Result<ExitCode> {
-    let (mut run, mut differing) = (0, 0);
+    let (mut run, mut differing, mut failing) = (0, 0, 0);
     for (name, list) in lists {
         run += 1;
         let theirs = output_of(program, &list)?;
-        if theirs != text(&list, detailed).as_bytes() {
+        if !theirs.status.success() {
+            failing += 1;
+            writeln!(out, "fails: {name}, {}", theirs.status)?;
+        } else if theirs.stdout != text(&list, detailed).as_bytes() {
             differing += 1;
             writeln!(out, "differs: {name}")?;
         }
     }
-    writeln!(out, "{run} lists, {differing} differ")?;
+    writeln!(out, "{run} lists, {differing} differ, {failing} fail")?;
     out.flush()?;
-    Ok(outcome(differing == 0))
+    Ok(outcome(differing == 0 && failing == 0))
 }
 
-fn output_of(program: &str, list: &[u8]) -> io::Result<Vec<u8>> {
+fn output_of(program: &str, list: &[u8]) -> io::Result<Output> {
     let mut child = Command::new(program)
         .stdin(Stdio::piped())
         .stdout(Stdio::piped())
@@ -271,5 +275,5 @@ fn output_of(program: &str, list: &[u8]) -> io::Result<Vec<u8>> {
     });
     let output = child.wait_with_output()?;
     let _ = feeder.join();
-    Ok(output.stdout)
+    Ok(output)
 }

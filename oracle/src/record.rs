@@ -110,7 +110,8 @@ fn files(folder: &Path) -> io::Result<Vec<PathBuf>> {
     Ok(paths)
 }
 
-/// The whole case, small lists, lists of every kind, and lists at the limits.
+/// The whole case, small lists, lists of every kind, lists at the limits, and
+/// those by hand that came later.
 fn entries() -> Vec<Entry> {
     let mut entries = vec![by_hand("whole-case", cases::whole_case())];
     for (name, list) in cases::small_cases() {
@@ -128,7 +129,7 @@ fn entries() -> Vec<Entry> {
             entries.extend(choose(kind, SEEDS, LISTS, false, &mut seen));
         }
     }
-    for (name, list) in cases::large_cases() {
+    for (name, list) in cases::large_cases().into_iter().chain(cases::later_cases()) {
         entries.push(by_hand(name, list));
     }
     entries

@@ -2,8 +2,8 @@
 //! collected for choosing which lists to record.
 
 use crate::calls::{Call, Round};
-use crate::listing::{push_lines, run, Step};
 use crate::driver::{lineage_number, skip_number, Answer};
+use crate::listing::{push_lines, run, Step};
 use crate::sim::evm2::read_hub::CarryOutcome;
 use std::collections::{BTreeMap, BTreeSet};
 

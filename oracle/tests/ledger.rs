@@ -2,8 +2,8 @@
 //! here from its text.
 
 use oracle::calls::{Advance, Call, Round};
-use oracle::listing::{self, Step};
 use oracle::driver::{lineage_number, skip_number, Answer};
+use oracle::listing::{self, Step};
 use oracle::sim::evm2::delta_snapshot::{Retention, Slot};
 use oracle::sim::evm2::read_hub::CarryOutcome;
 use oracle::sim::storage_memo::ReadAnchor;

@@ -21,6 +21,11 @@ type Layer = BTreeMap<Slot, Record>;
 
 #[derive(Clone, Default)]
 struct Totals {
+    accepted: usize,
+    served: usize,
+    waiting: usize,
+    valued: usize,
+    refused: usize,
     coalesced: usize,
     rounds: usize,
     members: usize,
@@ -205,7 +210,11 @@ impl Store {
                 vec!["put".into()]
             }
             Call::Read(_, slot) => match self.get(slot) {
-                Some(value) => found(Some(value)),
+                Some(value) => {
+                    self.totals.accepted += 1;
+                    self.totals.served += 1;
+                    found(Some(value))
+                }
                 None => return self.wait(slot),
             },
             Call::Take(_) => self.take(),
@@ -216,6 +225,8 @@ impl Store {
     fn wait(&mut self, slot: &Slot) -> Result<Lines, u8> {
         if let Some((waiters, _)) = self.awaiting.get_mut(slot) {
             *waiters += 1;
+            self.totals.accepted += 1;
+            self.totals.waiting += 1;
             self.totals.coalesced += 1;
             return Ok(vec![format!("wait {waiters}")]);
         }
@@ -223,6 +234,8 @@ impl Store {
             return Err(24);
         }
         self.awaiting.insert(*slot, (1, false));
+        self.totals.accepted += 1;
+        self.totals.waiting += 1;
         Ok(vec!["wait 1".into()])
     }
 
@@ -246,8 +259,15 @@ impl Store {
         {
             return Err(26);
         }
-        let gone = slots.iter().filter_map(|slot| self.awaiting.remove(slot));
-        let woken: usize = gone.map(|(waiters, _)| waiters).sum();
+        let (mut valued, mut refused) = (0, 0);
+        for slot in &slots {
+            let (waiters, _) = self.awaiting.remove(slot).expect("taken");
+            match round.value_of(slot) {
+                Some(_) => valued += waiters,
+                None => refused += waiters,
+            }
+        }
+        let woken = valued + refused;
         let mut errors = 0;
         if let Round::Members(members) = round {
             for (slot, value) in members {
@@ -257,6 +277,9 @@ impl Store {
                 }
             }
         }
+        self.totals.waiting -= woken;
+        self.totals.valued += valued;
+        self.totals.refused += refused;
         self.totals.rounds += usize::from(!slots.is_empty());
         self.totals.members += slots.len();
         self.totals.errors += errors;
@@ -378,6 +401,7 @@ fn by_document(list: &[u8]) -> String {
             Ok(call) => call,
             Err(refusal) => {
                 lines.push(format!("no {refusal}"));
+                lines.push(format!("at {}", reader.fault_place(refusal)));
                 break;
             }
         };
@@ -396,8 +420,16 @@ fn by_document(list: &[u8]) -> String {
                 let installed = store.as_ref().filter(|store| store.anchor.is_some());
                 lines.extend(installed.map(|Store { totals: t, .. }| {
                     format!(
-                        "stats {} {} {} {}",
-                        t.coalesced, t.rounds, t.members, t.errors
+                        "stats {} {} {} {}\nreads {} {} {} {} {}",
+                        t.coalesced,
+                        t.rounds,
+                        t.members,
+                        t.errors,
+                        t.accepted,
+                        t.served,
+                        t.waiting,
+                        t.valued,
+                        t.refused
                     )
                 }));
             }
@@ -414,7 +446,12 @@ fn seeds() -> u64 {
 
 #[test]
 fn lists_by_hand() {
-    let cases = [cases::small_cases(), cases::large_cases()].concat();
+    let cases = [
+        cases::small_cases(),
+        cases::large_cases(),
+        cases::later_cases(),
+    ]
+    .concat();
     for (name, list) in cases {
         assert_eq!(by_document(&list), detail(&list), "{name}");
     }

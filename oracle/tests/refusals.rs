@@ -1,6 +1,6 @@
 //! Refusals and their order, on short lists.
 
-use oracle::listing::listing;
+use oracle::listing::{detail, listing};
 use oracle::{cases, sweep};
 
 const ANCHOR: [u8; 2] = [5, 0];
@@ -39,6 +39,26 @@ fn bytes_that_are_no_call() {
 }
 
 #[test]
+fn the_place_of_a_fault() {
+    let place = |parts: &[&[u8]]| {
+        let text = detail(&parts.concat());
+        let last = text.lines().last().unwrap_or_default();
+        last.to_string()
+    };
+    let open = [1, 4, 0];
+    assert_eq!(place(&[&open, &[10, 0, 0]]), "at 3");
+    assert_eq!(place(&[&open, &[2, 5, 2, 0]]), "at 5");
+    // A number's last byte; the tenth at the latest.
+    assert_eq!(place(&[&open, &[2, 0x85, 0, 0]]), "at 5");
+    assert_eq!(place(&[&open, &[2], &[0x80; 9], &[2, 0]]), "at 13");
+    assert_eq!(place(&[&open, &[2], &[0x80; 14]]), "at 13");
+    // Where the list ends.
+    assert_eq!(place(&[&open, &[8, 5]]), "at 5");
+    assert_eq!(place(&[&open, &[4], &ANCHOR, &SLOT[1..]]), "at 57");
+    assert_eq!(place(&[&open, &[8], &ANCHOR]), "no 21");
+}
+
+#[test]
 fn the_order_of_the_others() {
     let order = cases::small_cases()
         .into_iter()
@@ -48,6 +68,39 @@ fn the_order_of_the_others() {
         listing(&order.1),
         "no 20\nno 1\nno 2\nno 9\nopen\nno 8\nno 21\nanchor fresh\nno 6\nno 7\nno 22\n"
     );
+}
+
+/// The refusals of a list by hand, in order.
+fn refusals_of(name: &str) -> Vec<u8> {
+    let mut cases = cases::later_cases().into_iter();
+    let list = cases.find(|(case, _)| *case == name).expect("a case").1;
+    let text = listing(&list);
+    let numbers = text.lines().filter_map(|line| line.strip_prefix("no "));
+    numbers.map(|number| number.parse().unwrap()).collect()
+}
+
+#[test]
+fn orders_by_hand() {
+    let without_store = [20; 6];
+    assert_eq!(
+        refusals_of("order-20"),
+        [&without_store[..], &[6, 7, 8, 8, 21, 21]].concat()
+    );
+    assert_eq!(refusals_of("order-open"), [1, 1, 1, 2, 9, 9]);
+    assert_eq!(
+        refusals_of("order-8"),
+        [8, 8, 8, 8, 8, 8, 8, 8, 8, 8, 22, 26, 23]
+    );
+    assert_eq!(
+        refusals_of("order-23"),
+        [6, 23, 22, 23, 26, 22, 23, 22, 23, 22, 23]
+    );
+    assert_eq!(refusals_of("order-24"), [22, 24]);
+    assert_eq!(refusals_of("cut-value"), [5]);
+    for name in ["form-advance", "form-take", "form-answer", "code-10"] {
+        assert_eq!(refusals_of(name), [3]);
+    }
+    assert_eq!(refusals_of("tenth-byte-2"), [4]);
 }
 
 #[test]

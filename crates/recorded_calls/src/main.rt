@@ -1,5 +1,5 @@
 // Replays the recorded lists (oracle/recorded). For each it prints the listing, and then what the oracle prints with `--detail`: the lines of each call, an advance's
-// applied writes and the read totals. `stdout` has what the oracle printed; tools/recorded_calls.py makes it and `data/lists`.
+// applied writes, the read totals and the place of a fault. `stdout` has what the oracle printed; tools/recorded_calls.py makes it and `data/lists`.
 ghost use Prim.Native.Nat.{_≤_, _<_};
 ghost use lib.ListN.{length};
 use call_reader::CallRead;
@@ -19,7 +19,7 @@ fn field(n: u64) {
     io::print_decimal(STDOUT_FILENO, n);
 }
 
-// The totals of reads, where a generation is installed: coalesced, rounds, members, member errors.
+// The totals of reads, where a generation is installed: coalesced, rounds, members, member errors; then accepted, served, waiting, woken with a value, woken refused.
 fn print_stats(s: &[u8]) {
     if s.len() < 192 {
         return;
@@ -32,6 +32,12 @@ fn print_stats(s: &[u8]) {
     field(words::read_u64(s, 160));
     field(words::read_u64(s, 168));
     field(words::read_u64(s, 176));
+    say(b"\nreads");
+    field(words::read_u64(s, 120));
+    field(words::read_u64(s, 128));
+    field(words::read_u64(s, 136));
+    field(words::read_u64(s, 144));
+    field(words::read_u64(s, 152));
     say(b"\n");
 }
 
@@ -182,6 +188,15 @@ fn print_detail(list: &[u8], at: usize, next: usize, call: ListedCall, s: &mut [
     print_stats(s);
 }
 
+// The refusal that ends a list, and the place of the byte that it is for.
+fn print_fault(n: u64, place: Cursor) {
+    say(b"no");
+    field(n);
+    say(b"\nat");
+    field(place.at as u64);
+    say(b"\n");
+}
+
 // The next call of a list with its detail; the place after it.
 fn print_next(list: &[u8], at: usize, s: &mut [u8]) -> usize
     requires { ⌜ at < length (now list) ⌝ }
@@ -193,10 +208,8 @@ fn print_next(list: &[u8], at: usize, s: &mut [u8]) -> usize
             print_detail(list, at, next, call, s);
             next
         }
-        CallRead::Fault(n, _) => {
-            say(b"no");
-            field(n);
-            say(b"\n");
+        CallRead::Fault(n, place) => {
+            print_fault(n, place);
             list.len()
         }
     }

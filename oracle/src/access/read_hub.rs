@@ -36,6 +36,13 @@ pub fn awaiting(hub: &ReadHub, slot: &Slot) -> Option<Awaiting> {
     })
 }
 
+/// The waiters of all awaiting slots.
+pub fn waiters(hub: &ReadHub) -> usize {
+    let state = hub.state.lock();
+    let pending = state.storage_pending.values();
+    pending.map(|pending| pending.waiters.len()).sum()
+}
+
 /// The awaiting slots, rising.
 pub fn awaiting_slots(hub: &ReadHub) -> Vec<Slot> {
     let state = hub.state.lock();

@@ -4,7 +4,7 @@
 use super::profile::{Move, Profile};
 use super::rng::Rng;
 use crate::calls::{write_list, Advance, Call, Round, Shape, Write};
-use crate::driver::{Answer, Refusal, Driver};
+use crate::driver::{Answer, Driver, Refusal};
 use crate::sim::evm2::delta_snapshot::oracle_access as layers;
 use crate::sim::evm2::delta_snapshot::{Retention, Slot};
 use crate::sim::evm2::read_hub::oracle_access as reads;

@@ -21,20 +21,8 @@ print-detail-requires c κs =
 enum-known-n : tie.Need-enum-known-n
 enum-known-n c = search needs
 
-slice-aggregate-say : tie.Need-slice-aggregate-say
-slice-aggregate-say c = search needs
-
-say-requires : tie.Need-say-requires
-say-requires c κs = search needs
-
-field-requires : tie.Need-field-requires
-field-requires c κs = search needs
-
-slice-aggregate-say-2 : tie.Need-slice-aggregate-say-2
-slice-aggregate-say-2 c = search needs
-
-say-requires-2 : tie.Need-say-requires-2
-say-requires-2 c κs = search needs
+print-fault-requires : tie.Need-print-fault-requires
+print-fault-requires c κs = search needs
 
 same-length : tie.Need-same-length
 same-length c = search needs
@@ -57,11 +45,7 @@ print-next-spec =
     enum-known-call
     print-detail-requires
     enum-known-n
-    slice-aggregate-say
-    say-requires
-    field-requires
-    slice-aggregate-say-2
-    say-requires-2
+    print-fault-requires
     same-length
     returns
     returns-2)
