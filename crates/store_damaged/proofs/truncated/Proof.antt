@@ -1,37 +1,34 @@
 -- `store_damaged::truncated` meets its contract: as many looks are counted as bytes were passed. Assumes nothing.
-use Prim.Native.Nat.{_+_, _-_, _≤_}
-use native.Mathlib.Omega.{arith}
+use Prim.Native.Nat.{_-_, _≤_}
 use borrow.Author.Needs.{needs}
 use lib.ListN.{length}
+use Rattle.store_damaged.specs.Tally.{total}
 use Rattle.store_damaged.proofs.truncated.Statement.{statement}
 use Rattle.store_damaged.proofs.truncated.Tie as tie
 
 abbrev Inv-loop : tie.InvT-loop
-Inv-loop s anchor t₀ n₀ t n = (n ≤ length s) × (t .refused + t .same + t .other ≤ n)
+Inv-loop s anchor t₀ n₀ t n = (n ≤ length s) × (total t ≤ n)
 
 abbrev μ-loop : tie.MeasureT-loop
 μ-loop s anchor t₀ n₀ t n = length s - n
 
+no-looks-requires : tie.Need-no-looks-requires Inv-loop μ-loop
+no-looks-requires c κs = search needs
+
 loop-holds : tie.Need-loop-holds Inv-loop μ-loop
 loop-holds c = search needs
 
-sub-look : tie.Need-sub-look Inv-loop μ-loop
-sub-look c = search needs
+sub-look-again : tie.Need-sub-look-again Inv-loop μ-loop
+sub-look-again c = search needs
 
-part-look-start : tie.Need-part-look-start Inv-loop μ-loop
-part-look-start c = search needs
+part-look-again-start : tie.Need-part-look-again-start Inv-loop μ-loop
+part-look-again-start c = search needs
 
-part-look-end : tie.Need-part-look-end Inv-loop μ-loop
-part-look-end c = search needs
+part-look-again-end : tie.Need-part-look-again-end Inv-loop μ-loop
+part-look-again-end c = search needs
 
-slot-requires : tie.Need-slot-requires Inv-loop μ-loop
-slot-requires c κs = search needs
-
-look-requires : tie.Need-look-requires Inv-loop μ-loop
-look-requires c κs = search needs
-
-looked-requires : tie.Need-looked-requires Inv-loop μ-loop
-looked-requires c κs = search needs
+look-again-requires : tie.Need-look-again-requires Inv-loop μ-loop
+look-again-requires c κs = search needs
 
 count-requires : tie.Need-count-requires Inv-loop μ-loop
 count-requires c κs = search needs
@@ -54,13 +51,12 @@ truncated-spec =
     (tie.spec
     Inv-loop
     μ-loop
+    no-looks-requires
     loop-holds
-    sub-look
-    part-look-start
-    part-look-end
-    slot-requires
-    look-requires
-    looked-requires
+    sub-look-again
+    part-look-again-start
+    part-look-again-end
+    look-again-requires
     count-requires
     add-n
     loop-less
