@@ -3,13 +3,18 @@
 
 pub mod calls;
 pub mod cases;
+pub mod choice;
+pub mod convert;
 pub mod driver;
 pub mod finals;
 pub mod generate;
+pub mod index;
 pub mod listing;
 pub mod missing;
+pub mod named;
 pub mod record;
 pub mod sweep;
 pub mod tally;
+pub mod voucher;
 
 include!(concat!(env!("OUT_DIR"), "/modules.rs"));
