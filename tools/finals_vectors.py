@@ -1,5 +1,5 @@
 #!/usr/bin/env python3
-# finals_vectors.py ORACLE OUT: makes the data file of the program final_writes_vectors.
+# finals_vectors.py ORACLE OUT: makes the data file of the program gate_final_writes_vectors.
 # Lists come from `ORACLE gen-finals SEED` and from hand, answers from `ORACLE finals`; the refusals 9 and 10 are document 01's.
 # A vector: 16 numbers of 8 bytes (the lengths of the five lists and of the two outputs; form and number of each cap;
 # 0 and a refusal's number, or 1 and the four counts), the five lists, the writes and the reads that the outputs begin with.

@@ -1,5 +1,5 @@
 #!/usr/bin/env python3
-# long_lists.py: makes stdin and stdout of the program long_lists. Run at the repository's root; the oracle has to be built (oracle/README.md).
+# long_lists.py: makes stdin and stdout of the program gate_long_lists. Run at the repository's root; the oracle has to be built (oracle/README.md).
 # stdin: four call lists, one after the other. stdout: what the oracle prints for each, after a line with its name.
 import subprocess
 
@@ -44,5 +44,5 @@ lists = [
 text = []
 for name, data in lists:
     text += [name + b"\n", subprocess.run(["oracle/target/release/oracle", "calls"], input=data, stdout=subprocess.PIPE, check=True).stdout]
-open("crates/long_lists/stdin", "wb").write(b"".join(data for _, data in lists))
-open("crates/long_lists/stdout", "wb").write(b"".join(text))
+open("crates/gate_long_lists/stdin", "wb").write(b"".join(data for _, data in lists))
+open("crates/gate_long_lists/stdout", "wb").write(b"".join(text))

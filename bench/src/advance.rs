@@ -1,5 +1,5 @@
 //! Times of an advance beside the reference's `apply_prepared`, on the same states and lists.
-use super::{put_word, time_of, CAPACITY, NUMBER};
+use super::{put_word, time_of, CAPACITY, MAGIC, NUMBER, RECORDS_WORD, RECORD_WORDS};
 use alloy::primitives::{Address, B256, U256};
 use degenbot_rpc::provider::AlloyProvider;
 use oracle::sim::evm2::delta_snapshot::oracle_access as layers;
@@ -133,12 +133,12 @@ fn put_slot(s: &mut [u8], word: usize, slot: &Slot) {
 
 /// The same state in a store's bytes.
 fn store(shape: Shape) -> Vec<u8> {
-    let mut s = vec![0u8; 6848 + 104 * CAPACITY];
+    let mut s = vec![0u8; 8 * (RECORDS_WORD + RECORD_WORDS * CAPACITY)];
     let idle = match shape.retention {
         Retention::Unbounded => [0, 0],
         Retention::IdleBlocks(n) => [1, n],
     };
-    let header = [0x706f_7869_6c6d_6501, CAPACITY as u64, u64::from(shape.limit), idle[0], idle[1], 1, NUMBER, 1];
+    let header = [MAGIC, CAPACITY as u64, u64::from(shape.limit), idle[0], idle[1], 1, NUMBER, 1];
     for (i, x) in header.into_iter().enumerate() {
         put_word(&mut s, i, x);
     }
@@ -150,7 +150,7 @@ fn store(shape: Shape) -> Vec<u8> {
     for (k, mut part) in parts(shape.depth).into_iter().enumerate() {
         part.sort_by_key(|&i| slot(i));
         for i in part {
-            let word = 856 + 13 * at;
+            let word = RECORDS_WORD + RECORD_WORDS * at;
             put_slot(&mut s, word, &slot(i));
             put_word(&mut s, word + 7, first + k as u64);
             put_word(&mut s, word + 8, 1);

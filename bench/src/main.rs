@@ -14,6 +14,10 @@ extern "C" {
 
 const CAPACITY: usize = 4096;
 const NUMBER: u64 = 1000;
+// docs/LAYOUT.md.
+const MAGIC: u64 = 0x706f_7869_6c6d_6502;
+const RECORDS_WORD: usize = 920;
+const RECORD_WORDS: usize = 14;
 
 fn put_word(bytes: &mut [u8], i: usize, x: u64) {
     bytes[8 * i..8 * i + 8].copy_from_slice(&x.to_be_bytes());
@@ -22,8 +26,8 @@ fn put_word(bytes: &mut [u8], i: usize, x: u64) {
 /// A store of `records` records spread over `depth` + 1 layers and the top, all with a value and used at the installed number.
 /// Slots of neighbouring layers interleave; they share all words but the last.
 fn store(records: usize, depth: usize) -> Vec<u8> {
-    let mut s = vec![0u8; 6848 + 104 * CAPACITY];
-    let header = [0x706f_7869_6c6d_6501, CAPACITY as u64, 255, 0, 0, 1, NUMBER, 0];
+    let mut s = vec![0u8; 8 * (RECORDS_WORD + RECORD_WORDS * CAPACITY)];
+    let header = [MAGIC, CAPACITY as u64, 255, 0, 0, 1, NUMBER, 0];
     for (i, x) in header.into_iter().enumerate() {
         put_word(&mut s, i, x);
     }
@@ -34,7 +38,7 @@ fn store(records: usize, depth: usize) -> Vec<u8> {
     for part in 0..parts {
         let share = records / parts + usize::from(part >= parts - records % parts);
         for j in 0..share {
-            let word = 856 + 13 * at;
+            let word = RECORDS_WORD + RECORD_WORDS * at;
             put_word(&mut s, word, 7);
             put_word(&mut s, word + 6, (j * parts + part) as u64);
             put_word(&mut s, word + 7, NUMBER);
@@ -91,7 +95,7 @@ fn slots(s: &[u8], records: usize) -> (Vec<Vec<u8>>, Vec<Vec<u8>>) {
     let mut misses = Vec::new();
     for i in 0..256usize {
         let record = (i * 7919) % records;
-        let at = 8 * (856 + 13 * record + 6);
+        let at = 8 * (RECORDS_WORD + RECORD_WORDS * record + 6);
         let last = u64::from_be_bytes(s[at..at + 8].try_into().unwrap());
         hits.push(arguments(last));
         misses.push(arguments(1 << 40 | i as u64 * 977));
@@ -121,7 +125,7 @@ fn calls() {
             let look = time(2000, |i| unsafe { bench_known_look(s.as_ptr(), len, hits[i % 256].as_ptr(), 136) });
             let miss = time(2000, |i| unsafe { bench_known_look(s.as_ptr(), len, misses[i % 256].as_ptr(), 136) });
             let whole = time(20, |i| unsafe { bench_look(s.as_ptr(), len, hits[i % 256].as_ptr(), 136) });
-            let last = u64::from_be_bytes(s[8 * (856 + 13 * (records - 1) + 6)..][..8].try_into().unwrap());
+            let last = u64::from_be_bytes(s[8 * (RECORDS_WORD + RECORD_WORDS * (records - 1) + 6)..][..8].try_into().unwrap());
             let top = arguments(last);
             let get = time(2000, |_| unsafe { bench_known_get(s.as_mut_ptr(), len, top.as_ptr(), 136) });
             let put = time(2000, |_| unsafe { bench_known_put(s.as_mut_ptr(), len, top.as_ptr(), 136) });

@@ -6,6 +6,7 @@ use mathlib.Core.List.{List, _++_, append-assoc}
 use native.Mathlib.Omega.{arith}
 use lib.ListN.{length, drop, replicate, length-append, length-replicate}
 use lib.Seq.{drop-at}
+use Rattle.layout.specs.Layout.{awaiting-size, awaiting-table, awaiting-table-size, awaiting-width}
 use Rattle.model.specs.Numbers.{be}
 use Rattle.model.specs.Reads.{Pending}
 use Rattle.image.specs.Image.{bytes-of, all-pending-words, padded}
@@ -18,7 +19,7 @@ use Rattle.awaiting.proofs.Stored.{image-of, length-image, with-as, zer
 
 -- The bytes of the area.
 abbrev pub area-of : List Pending → List ℕ
-area-of q = bytes-of (padded 576 (all-pending-words q))
+area-of q = bytes-of (padded awaiting-table (all-pending-words q))
 
 zero-bytes : (k : ℕ) → bytes-of (replicate k 0) ≡ replicate (8 * k) 0
 unfolding bytes-of be
@@ -26,12 +27,12 @@ zero-bytes zero = refl
 zero-bytes (suc k) = ap (λ (l : List ℕ). be 8 0 ++ l) (zero-bytes k) ∙ zeros-join 8 (8 * k) (8 * suc k) (omega arith)
 
 -- They are those of the awaiting slots, and 0.
-area-is : (q : List Pending) → length q ≤ 64 → area-of q ≡ image-of q ++ replicate (72 * (64 - length q)) 0
+area-is : (q : List Pending) → length q ≤ 64 → area-of q ≡ image-of q ++ replicate (awaiting-size * (64 - length q)) 0
 area-is q h =
     let l = all-pending-words q in
-    let n : length l ≡ 9 * length q = length-pending q in
-    let e : 8 * (576 - length l) ≡ 72 * (64 - length q) = omega arith in
-    bytes-append l (replicate (576 - length l) 0) ∙ ap (λ (x : List ℕ). image-of q ++ x) (zero-bytes (576 - length l) ∙ ap (λ (k : ℕ). replicate k 0) e)
+    let n : length l ≡ awaiting-width * length q = length-pending q in
+    let e : 8 * (awaiting-table - length l) ≡ awaiting-size * (64 - length q) = omega arith in
+    bytes-append l (replicate (awaiting-table - length l) 0) ∙ ap (λ (x : List ℕ). image-of q ++ x) (zero-bytes (awaiting-table - length l) ∙ ap (λ (k : ℕ). replicate k 0) e)
 
 -- A change of the area.
 pub area-changed : (p q : List Pending) (rest : List ℕ) → length p ≤ 64 → length q ≤ 64 → with-pending (length p) q (area-of p ++ rest) ≡ area-of q ++ rest
@@ -39,15 +40,15 @@ area-changed p q rest h k =
     let n = length p in
     let m = max n (length q) in
     let s = area-of p ++ rest in
-    let a : List ℕ = replicate (72 * (m - n)) 0 in
-    let b : List ℕ = replicate (72 * (64 - m)) 0 in
-    let c : List ℕ = replicate (72 * (n - length q)) 0 in
-    let z : a ++ b ≡ replicate (72 * (64 - n)) 0 = zeros-join (72 * (m - n)) (72 * (64 - m)) (72 * (64 - n)) (omega arith) in
-    let y : c ++ b ≡ replicate (72 * (64 - length q)) 0 = zeros-join (72 * (n - length q)) (72 * (64 - m)) (72 * (64 - length q)) (omega arith) in
+    let a : List ℕ = replicate (awaiting-size * (m - n)) 0 in
+    let b : List ℕ = replicate (awaiting-size * (64 - m)) 0 in
+    let c : List ℕ = replicate (awaiting-size * (n - length q)) 0 in
+    let z : a ++ b ≡ replicate (awaiting-size * (64 - n)) 0 = zeros-join (awaiting-size * (m - n)) (awaiting-size * (64 - m)) (awaiting-size * (64 - n)) (omega arith) in
+    let y : c ++ b ≡ replicate (awaiting-size * (64 - length q)) 0 = zeros-join (awaiting-size * (n - length q)) (awaiting-size * (64 - m)) (awaiting-size * (64 - length q)) (omega arith) in
     let e : s ≡ (image-of p ++ a) ++ (b ++ rest) = ap (λ (x : List ℕ). x ++ rest) (area-is p h ∙ ap (λ (x : List ℕ). image-of p ++ x) (sym z)) ∙ regroup (image-of p) a b rest in
-    let l : length (image-of p ++ a) ≡ 72 * m = length-append (image-of p) a ∙ omega (arith, length-image p, length-replicate {A = ℕ} (72 * (m - n)) 0) in
-    let d : drop (72 * m) s ≡ b ++ rest = ap (drop (72 * m)) e ∙ drop-at (image-of p ++ a) (b ++ rest) (72 * m) l in
-    let f : with-pending n q s ≡ image-of q ++ (c ++ drop (72 * m) s) = with-as n q s (72 * (n - length q)) (72 * m) refl refl in
+    let l : length (image-of p ++ a) ≡ awaiting-size * m = length-append (image-of p) a ∙ omega (arith, length-image p, length-replicate {A = ℕ} (awaiting-size * (m - n)) 0) in
+    let d : drop (awaiting-size * m) s ≡ b ++ rest = ap (drop (awaiting-size * m)) e ∙ drop-at (image-of p ++ a) (b ++ rest) (awaiting-size * m) l in
+    let f : with-pending n q s ≡ image-of q ++ (c ++ drop (awaiting-size * m) s) = with-as n q s (awaiting-size * (n - length q)) (awaiting-size * m) refl refl in
     let g : image-of q ++ (c ++ (b ++ rest)) ≡ (image-of q ++ (c ++ b)) ++ rest = simp append-assoc in
     let o : image-of q ++ (c ++ b) ≡ area-of q = ap (λ (x : List ℕ). image-of q ++ x) y ∙ sym (area-is q k) in
     f ∙ ap (λ (x : List ℕ). image-of q ++ (c ++ x)) d ∙ g ∙ ap (λ (x : List ℕ). x ++ rest) o
@@ -62,6 +63,6 @@ ready-area q rest e h f =
     let s = area-of q ++ rest in
     let x : with-pending (length q) q s ≡ s = area-changed q q rest h h in
     let p : pending-of (length q) s ≡ q = ap (pending-of (length q)) (sym x) ∙ read-back (length q) q s e (omega arith) in
-    let l : length (area-of q) ≡ 4608 = ap length (area-is q h) ∙ length-append (image-of q) (replicate (72 * (64 - length q)) 0) ∙ omega (arith, length-image q, length-replicate {A = ℕ} (72 * (64 - length q)) 0) in
-    let a : 4608 ≤ length s = omega (arith, length-append (area-of q) rest) in
+    let l : length (area-of q) ≡ awaiting-table-size = ap length (area-is q h) ∙ length-append (image-of q) (replicate (awaiting-size * (64 - length q)) 0) ∙ omega (arith, length-image q, length-replicate {A = ℕ} (awaiting-size * (64 - length q)) 0) in
+    let a : awaiting-table-size ≤ length s = omega (arith, length-append (area-of q) rest) in
     (record { few = h; area = a; ok = ap pending-ok p ∙ e; waiters-fit = rw p f; exact = ap (λ (y : List Pending). with-pending (length q) y s) p ∙ x }, p)

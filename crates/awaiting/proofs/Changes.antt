@@ -8,6 +8,7 @@ use lib.Dec.{leb}
 use borrow.Author.Tests.{leb-false}
 use lib.ListN.{length, take, drop, replicate, length-append, length-drop}
 use lib.Seq.{length-take-le}
+use Rattle.layout.specs.Layout.{awaiting-size, awaiting-table-size, waiters-offset}
 use Rattle.model.specs.declared.delta_snapshot.Slot.{Slot}
 use Rattle.model.specs.Numbers.{be}
 use Rattle.model.specs.Slots.{slot-words, slot-eqb, mem}
@@ -52,12 +53,12 @@ module _ (n i : ℕ) (t : Slot) (s : List ℕ) (r : Ready n s) where
   exact-of = exactly n (pending-of n s) s (length-pending-of n s) (r .exact)
 
   -- One waiter more at the slot's place.
-  pub joined-found : (x : ℕ) {b : List ℕ} → FoundAt t (pending-of n s) i → x ≡ entry-at i s .waiters → b ≡ placed (i * 72 + 56) (be 8 (x + 1)) s → Holds n b n (join t (pending-of n s)) s
+  pub joined-found : (x : ℕ) {b : List ℕ} → FoundAt t (pending-of n s) i → x ≡ entry-at i s .waiters → b ≡ placed (i * awaiting-size + waiters-offset) (be 8 (x + 1)) s → Holds n b n (join t (pending-of n s)) s
   joined-found x f e g =
       let q = pending-of n s in
       let l : length q ≡ n = length-pending-of n s in
       let h : i < length q = f .inside in
-      let room : 4608 ≤ length s = r .area in
+      let room : awaiting-table-size ≤ length s = r .area in
       let few : n ≤ 64 = r .few in
       let w = pending-at i q in
       let v : Pending = record { slot = t; waiters = suc (w .waiters); taken = w .taken } in
@@ -70,13 +71,13 @@ module _ (n i : ℕ) (t : Slot) (s : List ℕ) (r : Ready n s) where
       record {
         count-is = sym (ap length (f .joins) ∙ d);
         bytes-are = g ∙ waiters-written i w (x + 1) s (omega arith) (entry-part q s exact-of i h)
-            ∙ ap (λ (u : Pending). placed (i * 72) (bytes-of (pending-words u)) s) o
+            ∙ ap (λ (u : Pending). placed (i * awaiting-size) (bytes-of (pending-words u)) s) o
             ∙ replaced q s exact-of i v h ∙ ap₂ (λ (k : ℕ) (y : List Pending). with-pending k y s) l (sym (f .joins));
       }
 
   -- The slot between others.
   pub joined-absent : {b : List ℕ} → AbsentAt t (pending-of n s) i
-      → b ≡ take (i * 72) s ++ bytes-of (slot-words t ++ (1 ∷ 0 ∷ [])) ++ part (i * 72) ((n - i) * 72) s ++ drop ((n + 1) * 72) s → Holds (n + 1) b n (join t (pending-of n s)) s
+      → b ≡ take (i * awaiting-size) s ++ bytes-of (slot-words t ++ (1 ∷ 0 ∷ 0 ∷ [])) ++ part (i * awaiting-size) ((n - i) * awaiting-size) s ++ drop ((n + 1) * awaiting-size) s → Holds (n + 1) b n (join t (pending-of n s)) s
   joined-absent f g =
       let q = pending-of n s in
       let l : length q ≡ n = length-pending-of n s in
@@ -88,7 +89,7 @@ module _ (n i : ℕ) (t : Slot) (s : List ℕ) (r : Ready n s) where
       }
 
   pub removed-found : {b : List ℕ} → FoundAt t (pending-of n s) i
-      → b ≡ take (i * 72) s ++ part ((i + 1) * 72) ((n - (i + 1)) * 72) s ++ replicate 72 0 ++ drop (n * 72) s → Holds (n - 1) b n (remove-pending t (pending-of n s)) s
+      → b ≡ take (i * awaiting-size) s ++ part ((i + 1) * awaiting-size) ((n - (i + 1)) * awaiting-size) s ++ replicate awaiting-size 0 ++ drop (n * awaiting-size) s → Holds (n - 1) b n (remove-pending t (pending-of n s)) s
   removed-found f g =
       let q = pending-of n s in
       let l : length q ≡ n = length-pending-of n s in

@@ -7,12 +7,14 @@ use native.Mathlib.Nat.{add-zero}
 use native.Mathlib.Omega.{arith}
 use lib.ListN.{length, take, drop, length-append, length-take, length-drop, take-append-drop}
 use lib.Seq.{drop-at, drop-drop, length-take-le}
+use Rattle.layout.specs.Layout.{awaiting-size, awaiting-table-size, taken-offset}
 use Rattle.model.specs.declared.delta_snapshot.Slot.{Slot}
 use Rattle.model.specs.Numbers.{be}
 use Rattle.model.specs.Slots.{slot-eqb, mem}
 use Rattle.model.specs.Reads.{Pending, waiters-of, is-taken, queued, take-queued, remove-pending, remove-all-pending, woken, all-taken, has-duplicate}
 use Rattle.model.specs.Entries.{slot-of, slot-bytes, slots-bytes, with-slots}
 use Rattle.words.specs.Parts.{part, placed}
+use Rattle.entries.proofs.Numbers.{part-take}
 use Rattle.image.specs.Image.{bytes-of, pending-words}
 use Rattle.image.specs.Area.{pending-of, with-pending}
 use Rattle.image.proofs.PendingOk.{length-take-queued}
@@ -20,7 +22,7 @@ use Rattle.records.proofs.Written.{placed-after}
 use Rattle.awaiting.specs.Awaiting.{entry-at, Ready, entry-slots}
 use Rattle.awaiting.proofs.Places.{pending-at}
 use Rattle.awaiting.proofs.Awaits.{length-pending-of, pending-is, pending-from, pending-end}
-use Rattle.awaiting.proofs.Lists.{part-take, entry-slots-first}
+use Rattle.awaiting.proofs.Lists.{entry-slots-first}
 use Rattle.awaiting.proofs.Stored.{image-of, image-cons, image-none, length-image, length-entry, with-as, exactly, entry-part, taken-written}
 
 -- A lent list ---------------------------------------------------------------------------------------------
@@ -85,7 +87,7 @@ pub queued-end : (n i : ℕ) (s : List ℕ) → n ≤ i → queued (drop i (pend
 unfolding queued
 queued-end n i s h = ap queued (pending-end n i s h)
 
--- The 52 bytes of a slot, out of its 56.
+-- The 52 bytes of a slot, out of its words.
 pub length-slot : (t : Slot) → length (slot-bytes t) ≡ 52
 unfolding slot-bytes be
 length-slot t = refl
@@ -99,12 +101,12 @@ slot-within : (w : Pending) → take 52 (drop 4 (bytes-of (pending-words w))) �
 unfolding slot-bytes bytes-of be
 slot-within w = refl
 
-pub slot-part : (n i : ℕ) (s : List ℕ) → Ready n s → i < n → part (i * 72 + 4) 52 s ≡ slot-bytes (entry-at i s .slot)
+pub slot-part : (n i : ℕ) (s : List ℕ) → Ready n s → i < n → part (i * awaiting-size + 4) 52 s ≡ slot-bytes (entry-at i s .slot)
 slot-part n i s r h =
     let q = pending-of n s in
     let l : length q ≡ n = length-pending-of n s in
-    let e : part (i * 72) 72 s ≡ bytes-of (pending-words (pending-at i q)) = entry-part q s (exactly n q s l (r .exact)) i (omega arith) in
-    ap (take 52) (sym (drop-drop 4 (i * 72) s)) ∙ sym (part-take 4 52 72 (drop (i * 72) s) (omega arith))
+    let e : part (i * awaiting-size) awaiting-size s ≡ bytes-of (pending-words (pending-at i q)) = entry-part q s (exactly n q s l (r .exact)) i (omega arith) in
+    ap (take 52) (sym (drop-drop 4 (i * awaiting-size) s)) ∙ sym (part-take 4 52 awaiting-size (drop (i * awaiting-size) s) (omega arith))
     ∙ ap (λ (x : List ℕ). take 52 (drop 4 x)) e ∙ slot-within (pending-at i q) ∙ ap (λ (w : Pending). slot-bytes (w .slot)) (pending-is n i s h)
 
 -- One more slot of the queue listed, or a taken one passed.
@@ -148,41 +150,41 @@ pub mark-start : (n : ℕ) (s : List ℕ) → let q = pending-of n s in placed 0
 mark-start n s =
     let q = take-queued (pending-of n s) in
     let l : length q ≡ n = length-take-queued (pending-of n s) ∙ length-pending-of n s in
-    let e : 0 + length (image-of q) ≡ n * 72 = omega (arith, length-image q) in
-    ap (λ (k : ℕ). image-of q ++ drop k s) e ∙ sym (with-as n q s 0 (n * 72) (omega arith) (omega arith))
+    let e : 0 + length (image-of q) ≡ n * awaiting-size = omega (arith, length-image q) in
+    ap (λ (k : ℕ). image-of q ++ drop k s) e ∙ sym (with-as n q s 0 (n * awaiting-size) (omega arith) (omega arith))
 
 -- A turn of the loop: awaiting slot i is marked; those after it are as they were.
-pub mark-step : (n i : ℕ) (s₀ s b : List ℕ) → Ready n s₀ → i < n → length s ≡ length s₀ → drop (i * 72) s ≡ drop (i * 72) s₀ → b ≡ placed (i * 72 + 64) (be 8 1) s
-    → let q = pending-of n s₀ in (drop ((i + 1) * 72) b ≡ drop ((i + 1) * 72) s₀) × (placed ((i + 1) * 72) (image-of (take-queued (drop (i + 1) q))) b ≡ placed (i * 72) (image-of (take-queued (drop i q))) s)
+pub mark-step : (n i : ℕ) (s₀ s b : List ℕ) → Ready n s₀ → i < n → length s ≡ length s₀ → drop (i * awaiting-size) s ≡ drop (i * awaiting-size) s₀ → b ≡ placed (i * awaiting-size + taken-offset) (be 8 1) s
+    → let q = pending-of n s₀ in (drop ((i + 1) * awaiting-size) b ≡ drop ((i + 1) * awaiting-size) s₀) × (placed ((i + 1) * awaiting-size) (image-of (take-queued (drop (i + 1) q))) b ≡ placed (i * awaiting-size) (image-of (take-queued (drop i q))) s)
 unfolding take-queued
 mark-step n i s₀ s b r h l d e =
     let q = pending-of n s₀ in
     let w = entry-at i s₀ in
     let m : length q ≡ n = length-pending-of n s₀ in
     let few : n ≤ 64 = r .few in
-    let room : 4608 ≤ length s₀ = r .area in
-    let p : part (i * 72) 72 s ≡ bytes-of (pending-words w) = ap (take 72) d ∙ entry-part q s₀ (exactly n q s₀ m (r .exact)) i (omega arith) ∙ ap (λ (x : Pending). bytes-of (pending-words x)) (pending-is n i s₀ h) in
+    let room : awaiting-table-size ≤ length s₀ = r .area in
+    let p : part (i * awaiting-size) awaiting-size s ≡ bytes-of (pending-words w) = ap (take awaiting-size) d ∙ entry-part q s₀ (exactly n q s₀ m (r .exact)) i (omega arith) ∙ ap (λ (x : Pending). bytes-of (pending-words x)) (pending-is n i s₀ h) in
     let v = bytes-of (pending-words (marked w)) in
-    let a : length v ≡ 72 = length-entry (marked w) in
-    let f : b ≡ placed (i * 72) v s = e ∙ taken-written i w s (omega arith) p in
-    let t : length (take (i * 72) s) ≡ i * 72 = length-take-le (i * 72) s (omega arith) in
-    let u : length (take (i * 72) s ++ v) ≡ (i + 1) * 72 = length-append (take (i * 72) s) v ∙ omega arith in
-    let g : i * 72 + length v ≡ i * 72 + 72 = omega arith in
-    let o : i * 72 + 72 ≡ (i + 1) * 72 = omega arith in
+    let a : length v ≡ awaiting-size = length-entry (marked w) in
+    let f : b ≡ placed (i * awaiting-size) v s = e ∙ taken-written i w s (omega arith) p in
+    let t : length (take (i * awaiting-size) s) ≡ i * awaiting-size = length-take-le (i * awaiting-size) s (omega arith) in
+    let u : length (take (i * awaiting-size) s ++ v) ≡ (i + 1) * awaiting-size = length-append (take (i * awaiting-size) s) v ∙ omega arith in
+    let g : i * awaiting-size + length v ≡ i * awaiting-size + awaiting-size = omega arith in
+    let o : i * awaiting-size + awaiting-size ≡ (i + 1) * awaiting-size = omega arith in
     let rest = image-of (take-queued (drop (i + 1) q)) in
     let y : length (take-queued (drop (i + 1) q)) ≡ n - (i + 1) = length-take-queued (drop (i + 1) q) ∙ length-drop (i + 1) q ∙ omega arith in
-    let z : length rest ≡ 72 * (n - (i + 1)) = length-image (take-queued (drop (i + 1) q)) ∙ ap (λ (k : ℕ). 72 * k) y in (
-      ap (drop ((i + 1) * 72)) f ∙ drop-at (take (i * 72) s ++ v) (drop (i * 72 + length v) s) ((i + 1) * 72) u
-          ∙ ap (λ (k : ℕ). drop k s) g ∙ sym (drop-drop 72 (i * 72) s) ∙ ap (drop 72) d ∙ drop-drop 72 (i * 72) s₀ ∙ ap (λ (k : ℕ). drop k s₀) o,
-      ap (placed ((i + 1) * 72) rest) f ∙ placed-after (i * 72) ((i + 1) * 72) v rest s (omega arith) (omega arith)
-          ∙ ap (λ (x : List ℕ). placed (i * 72) x s) (sym (image-cons (marked w) (take-queued (drop (i + 1) q))))
-          ∙ ap (λ (x : List Pending). placed (i * 72) (image-of (take-queued x)) s) (sym (pending-from n i s₀ h)),
+    let z : length rest ≡ awaiting-size * (n - (i + 1)) = length-image (take-queued (drop (i + 1) q)) ∙ ap (λ (k : ℕ). awaiting-size * k) y in (
+      ap (drop ((i + 1) * awaiting-size)) f ∙ drop-at (take (i * awaiting-size) s ++ v) (drop (i * awaiting-size + length v) s) ((i + 1) * awaiting-size) u
+          ∙ ap (λ (k : ℕ). drop k s) g ∙ sym (drop-drop awaiting-size (i * awaiting-size) s) ∙ ap (drop awaiting-size) d ∙ drop-drop awaiting-size (i * awaiting-size) s₀ ∙ ap (λ (k : ℕ). drop k s₀) o,
+      ap (placed ((i + 1) * awaiting-size) rest) f ∙ placed-after (i * awaiting-size) ((i + 1) * awaiting-size) v rest s (omega arith) (omega arith)
+          ∙ ap (λ (x : List ℕ). placed (i * awaiting-size) x s) (sym (image-cons (marked w) (take-queued (drop (i + 1) q))))
+          ∙ ap (λ (x : List Pending). placed (i * awaiting-size) (image-of (take-queued x)) s) (sym (pending-from n i s₀ h)),
     )
 
-pub mark-end : (n i : ℕ) (s₀ s : List ℕ) → n ≤ i → placed (i * 72) (image-of (take-queued (drop i (pending-of n s₀)))) s ≡ s
+pub mark-end : (n i : ℕ) (s₀ s : List ℕ) → n ≤ i → placed (i * awaiting-size) (image-of (take-queued (drop i (pending-of n s₀)))) s ≡ s
 unfolding take-queued
 mark-end n i s₀ s h =
-    ap (λ (x : List Pending). placed (i * 72) (image-of (take-queued x)) s) (pending-end n i s₀ h) ∙ ap (λ (x : List ℕ). placed (i * 72) x s) image-none ∙ placed-none (i * 72) s
+    ap (λ (x : List Pending). placed (i * awaiting-size) (image-of (take-queued x)) s) (pending-end n i s₀ h) ∙ ap (λ (x : List ℕ). placed (i * awaiting-size) x s) image-none ∙ placed-none (i * awaiting-size) s
 
 -- An awaiting slot that is not taken is in the queue.
 pub queue-room : (n i : ℕ) (s : List ℕ) → i < n → entry-at i s .taken ≡ false → 0 < length (queued (drop i (pending-of n s)))

@@ -4,6 +4,7 @@ use mathlib.Core.Path.{_≡_}
 use mathlib.Core.Bool.{true, cond}
 use mathlib.Core.List.{List, [], _∷_, map}
 use lib.ListN.{length, drop}
+use Rattle.layout.specs.Layout.{awaiting-size, awaiting-table-size, awaiting-width}
 use Rattle.model.specs.declared.delta_snapshot.Slot.{Slot}
 use Rattle.model.specs.Slots.{slot-eqb, slot-ltb}
 use Rattle.model.specs.Reads.{Pending, queued}
@@ -16,7 +17,7 @@ use Rattle.records.specs.declared.Found.the-variants.{At, Absent}
 
 -- Awaiting slot i in the bytes that begin with awaiting slots.
 abbrev pub entry-at : ℕ → List ℕ → Pending
-entry-at i s = read-pending (words-of 9 (drop (i * 72) s))
+entry-at i s = read-pending (words-of awaiting-width (drop (i * awaiting-size) s))
 
 -- The place of a slot among awaiting slots that rise and stand from place i on: where it is, or where it would go.
 unfoldable pub place-from : ℕ → Slot → List Pending → Found
@@ -29,13 +30,13 @@ place-in t q = place-from 0 t q
 
 -- What a look-up asks: the bytes hold n awaiting slots, and these rise.
 pub record Rising (n : ℕ) (s : List ℕ) : Type 0 where
-  pub room : n * 72 ≤ length s
+  pub room : n * awaiting-size ≤ length s
   pub ok : pending-ok (pending-of n s) ≡ true
 
 -- What a change asks: at most 64 awaiting slots in their area, which rise and fit, with fewer than 2^32 waiters in all; the bytes are exactly theirs.
 pub record Ready (n : ℕ) (s : List ℕ) : Type 0 where
   pub few : n ≤ 64
-  pub area : 4608 ≤ length s
+  pub area : awaiting-table-size ≤ length s
   pub ok : pending-ok (pending-of n s) ≡ true
   pub waiters-fit : all-waiters (pending-of n s) < 2 ^ 32
   pub exact : with-pending n (pending-of n s) s ≡ s

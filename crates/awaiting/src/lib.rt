@@ -1,15 +1,13 @@
-// The awaiting slots of a store in bytes, rising by slot: 72 bytes each, the slot's seven words, its waiters, and 1 if it is taken.
+// The awaiting slots of a store in bytes, rising by slot: each has the slot's words, its waiters, and 1 if it is taken.
 use model::delta_snapshot::Slot;
-use model::storage_memo::Address;
-use model::storage_memo::U256;
 use records::Found;
-use records::Order;
 ghost use mathlib.Core.Path.{_≡_};
 ghost use mathlib.Core.Bool.{false, cond};
-ghost use Prim.Native.Nat.{_+_, _-_, _*_, _≤_, _<_, _^_};
+ghost use Prim.Native.Nat.{_+_, _-_, _*_, _≤_, _<_};
 ghost use mathlib.Core.List.{_∷_, _++_, []};
 ghost use lib.Dec.{eqb};
 ghost use lib.ListN.{length, take, drop, getD, replicate};
+ghost use Rattle.layout.specs.Layout.{awaiting-size};
 ghost use Rattle.model.specs.Slots.{slot-words, slot-eqb, mem};
 ghost use Rattle.model.specs.Reads as reads;
 ghost use Rattle.model.specs.Entries.{slot-of, members-of, flags-known};
@@ -18,42 +16,28 @@ ghost use Rattle.image.specs.Image.{bytes-of};
 ghost use Rattle.image.specs.Area.{pending-of, with-pending};
 ghost use Rattle.awaiting.specs.Awaiting.{entry-at, place-in, Rising, Ready, Holds, Lists, entry-slots};
 
-// The place of a slot among the n awaiting slots that s begins with, by halves.
+// The place of a slot among the n awaiting slots that s begins with.
 pub fn find(s: &[u8], n: usize, slot: Slot) -> Found
     requires { ⌜ Rising n (now s) ⌝ }
     ensures { λ r. ⌜ r ≡ place-in slot (pending-of n (now (s .entry))) ⌝ }
 {
-    let mut lo = 0;
-    let mut hi = n;
-    while lo < hi {
-        let mid = lo + (hi - lo) / 2;
-        match records::compare(s, mid * 72, slot) {
-            Order::Less => {
-                lo = mid + 1;
-            }
-            Order::Equal => return Found::At(mid),
-            Order::Greater => {
-                hi = mid;
-            }
-        }
-    }
-    Found::Absent(lo)
+    records::search(s, layout::AWAITING_SIZE, n, slot)
 }
 
 // The waiters of awaiting slot i.
 fn waiters_at(s: &[u8], i: usize) -> u64
-    requires { ⌜ (i + 1) * 72 ≤ length (now s) ⌝ }
+    requires { ⌜ (i + 1) * awaiting-size ≤ length (now s) ⌝ }
     ensures { λ r. ⌜ r ≡ entry-at i (now (s .entry)) .waiters ⌝ }
 {
-    words::read_u64(s, i * 72 + 56)
+    words::read_u64(s, i * layout::AWAITING_SIZE + layout::WAITERS_OFFSET)
 }
 
 // Whether awaiting slot i is taken.
 fn taken_at(s: &[u8], i: usize) -> bool
-    requires { ⌜ (i + 1) * 72 ≤ length (now s) ⌝ }
+    requires { ⌜ (i + 1) * awaiting-size ≤ length (now s) ⌝ }
     ensures { λ r. ⌜ r ≡ entry-at i (now (s .entry)) .taken ⌝ }
 {
-    words::read_u64(s, i * 72 + 64) != 0
+    words::read_u64(s, i * layout::AWAITING_SIZE + layout::TAKEN_OFFSET) != 0
 }
 
 // The waiters of a slot: 0 if it awaits nothing.
@@ -91,13 +75,23 @@ pub fn is_awaiting(s: &[u8], n: usize, slot: Slot) -> bool
 
 // Puts a slot with one waiter, not taken, before awaiting slot i of n.
 fn insert_at(s: &mut [u8], n: usize, i: usize, slot: Slot)
-    requires { ⌜ (i ≤ n) × ((n + 1) * 72 ≤ length (now s)) ⌝ }
-    ensures { λ _. ⌜ now (s .exit) ≡ take (i * 72) (now (s .entry)) ++ bytes-of (slot-words slot ++ (1 ∷ 0 ∷ [])) ++ part (i * 72) ((n - i) * 72) (now (s .entry)) ++ drop ((n + 1) * 72) (now (s .entry)) ⌝ }
+    requires { ⌜ (i ≤ n) × ((n + 1) * awaiting-size ≤ length (now s)) ⌝ }
+    ensures { λ _. ⌜ now (s .exit) ≡ take (i * awaiting-size) (now (s .entry)) ++ bytes-of (slot-words slot ++ (1 ∷ 0 ∷ 0 ∷ [])) ++ part (i * awaiting-size) ((n - i) * awaiting-size) (now (s .entry)) ++ drop ((n + 1) * awaiting-size) (now (s .entry)) ⌝ }
 {
-    words::move_up(s, i * 72, (n - i) * 72, 72);
-    records::write_slot(s, i * 72, slot);
-    words::write_u64(s, i * 72 + 56, 1);
-    words::write_u64(s, i * 72 + 64, 0);
+    words::move_up(
+        s,
+        i * layout::AWAITING_SIZE,
+        (n - i) * layout::AWAITING_SIZE,
+        layout::AWAITING_SIZE,
+    );
+    records::write_slot(s, i * layout::AWAITING_SIZE, slot);
+    words::write_u64(s, i * layout::AWAITING_SIZE + layout::WAITERS_OFFSET, 1);
+    words::write_u64(s, i * layout::AWAITING_SIZE + layout::TAKEN_OFFSET, 0);
+    words::write_u64(
+        s,
+        i * layout::AWAITING_SIZE + layout::SECOND_WAITERS_OFFSET,
+        0,
+    );
 }
 
 // An unserved read: the slot joins the queue or, if it awaits already, gains a waiter. The number of awaiting slots then.
@@ -108,7 +102,7 @@ pub fn join(s: &mut [u8], n: usize, slot: Slot) -> usize
     match find(s, n, slot) {
         Found::At(i) => {
             let w = waiters_at(s, i);
-            words::write_u64(s, i * 72 + 56, w + 1);
+            words::write_u64(s, i * layout::AWAITING_SIZE + layout::WAITERS_OFFSET, w + 1);
             n
         }
         Found::Absent(i) => {
@@ -120,7 +114,7 @@ pub fn join(s: &mut [u8], n: usize, slot: Slot) -> usize
 
 // The number of the queue's slots.
 pub fn queue_len(s: &[u8], n: usize) -> usize
-    requires { ⌜ n * 72 ≤ length (now s) ⌝ }
+    requires { ⌜ n * awaiting-size ≤ length (now s) ⌝ }
     ensures { λ r. ⌜ r ≡ length (reads.queued (pending-of n (now (s .entry)))) ⌝ }
 {
     let mut k = 0;
@@ -136,14 +130,14 @@ pub fn queue_len(s: &[u8], n: usize) -> usize
 
 // Writes the slot of awaiting slot i as output entry k, unless it is taken; the number of entries then.
 fn list_one(s: &[u8], i: usize, out: &mut [u8], k: usize) -> usize
-    requires { ⌜ ((i + 1) * 72 ≤ length (now s)) × (entry-at i (now s) .taken ≡ false → (k + 1) * 52 ≤ length (now out)) ⌝ }
-    ensures { λ r. ⌜ (r ≡ cond (entry-at i (now (s .entry)) .taken) k (k + 1)) × (now (out .exit) ≡ cond (entry-at i (now (s .entry)) .taken) (now (out .entry)) (placed (k * 52) (part (i * 72 + 4) 52 (now (s .entry))) (now (out .entry)))) ⌝ }
+    requires { ⌜ ((i + 1) * awaiting-size ≤ length (now s)) × (entry-at i (now s) .taken ≡ false → (k + 1) * 52 ≤ length (now out)) ⌝ }
+    ensures { λ r. ⌜ (r ≡ cond (entry-at i (now (s .entry)) .taken) k (k + 1)) × (now (out .exit) ≡ cond (entry-at i (now (s .entry)) .taken) (now (out .entry)) (placed (k * 52) (part (i * awaiting-size + 4) 52 (now (s .entry))) (now (out .entry)))) ⌝ }
 {
     if taken_at(s, i) {
         return k;
     }
-    let a = i * 72 + 4;
-    let e = i * 72 + 56;
+    let a = i * layout::AWAITING_SIZE + 4;
+    let e = i * layout::AWAITING_SIZE + layout::WAITERS_OFFSET;
     words::place(out, k * 52, &s[a..e]);
     k + 1
 }
@@ -169,7 +163,7 @@ fn mark_taken(s: &mut [u8], n: usize)
 {
     let mut i = 0;
     while i < n {
-        words::write_u64(s, i * 72 + 64, 1);
+        words::write_u64(s, i * layout::AWAITING_SIZE + layout::TAKEN_OFFSET, 1);
         i += 1;
     }
 }
@@ -186,11 +180,16 @@ pub fn take_queued(s: &mut [u8], n: usize, out: &mut [u8]) -> usize
 
 // Takes awaiting slot i of n away: those after it move down, and the last one's bytes are 0.
 fn remove_at(s: &mut [u8], n: usize, i: usize)
-    requires { ⌜ (i < n) × (n * 72 ≤ length (now s)) ⌝ }
-    ensures { λ _. ⌜ now (s .exit) ≡ take (i * 72) (now (s .entry)) ++ part ((i + 1) * 72) ((n - (i + 1)) * 72) (now (s .entry)) ++ replicate 72 0 ++ drop (n * 72) (now (s .entry)) ⌝ }
+    requires { ⌜ (i < n) × (n * awaiting-size ≤ length (now s)) ⌝ }
+    ensures { λ _. ⌜ now (s .exit) ≡ take (i * awaiting-size) (now (s .entry)) ++ part ((i + 1) * awaiting-size) ((n - (i + 1)) * awaiting-size) (now (s .entry)) ++ replicate awaiting-size 0 ++ drop (n * awaiting-size) (now (s .entry)) ⌝ }
 {
-    words::move_down(s, i * 72, (n - (i + 1)) * 72, 72);
-    words::clear(s, (n - 1) * 72, 72);
+    words::move_down(
+        s,
+        i * layout::AWAITING_SIZE,
+        (n - (i + 1)) * layout::AWAITING_SIZE,
+        layout::AWAITING_SIZE,
+    );
+    words::clear(s, (n - 1) * layout::AWAITING_SIZE, layout::AWAITING_SIZE);
 }
 
 // Takes a slot out of the n awaiting ones; the number of awaiting slots then.
@@ -203,33 +202,6 @@ pub fn remove(s: &mut [u8], n: usize, slot: Slot) -> usize
     };
     remove_at(s, n, i);
     n - 1
-}
-
-// The first four bytes of a word.
-fn high(x: u64) -> u32
-    ensures { λ r. ⌜ (r * 2 ^ 32 ≤ x) × (x < (r + 1) * 2 ^ 32) ⌝ }
-{
-    (x / 0x1_0000_0000) as u32
-}
-
-// The slot in the 52 bytes at `at`.
-pub fn slot_in(list: &[u8], at: usize) -> Slot
-    requires { ⌜ at + 52 ≤ length (now list) ⌝ }
-    ensures { λ r. ⌜ r ≡ slot-of (drop at (now (list .entry))) ⌝ }
-{
-    Slot {
-        address: Address {
-            w0: high(words::read_u64(list, at)),
-            w1: words::read_u64(list, at + 4),
-            w2: words::read_u64(list, at + 12),
-        },
-        index: U256 {
-            w0: words::read_u64(list, at + 20),
-            w1: words::read_u64(list, at + 28),
-            w2: words::read_u64(list, at + 36),
-            w3: words::read_u64(list, at + 44),
-        },
-    }
 }
 
 // Whether two slots are equal.
@@ -264,7 +236,7 @@ fn names(list: &[u8], stride: usize, from: usize, slot: Slot) -> bool
 {
     let mut at = from;
     while stride <= list.len() - at {
-        if same(slot_in(list, at), slot) {
+        if same(entries::read_slot(list, at), slot) {
             return true;
         }
         at += stride;
@@ -279,7 +251,7 @@ pub fn has_duplicate(list: &[u8], stride: usize) -> bool
 {
     let mut at = 0;
     while stride <= list.len() - at {
-        let slot = slot_in(list, at);
+        let slot = entries::read_slot(list, at);
         at += stride;
         if names(list, stride, at, slot) {
             return true;
@@ -309,7 +281,7 @@ pub fn all_taken(s: &[u8], n: usize, list: &[u8], stride: usize) -> bool
 {
     let mut at = 0;
     while stride <= list.len() - at {
-        if !is_taken(s, n, slot_in(list, at)) {
+        if !is_taken(s, n, entries::read_slot(list, at)) {
             return false;
         }
         at += stride;
@@ -325,7 +297,7 @@ pub fn woken(s: &[u8], n: usize, list: &[u8], stride: usize) -> u64
     let mut sum: u64 = 0;
     let mut at = 0;
     while stride <= list.len() - at {
-        sum += waiters(s, n, slot_in(list, at));
+        sum += waiters(s, n, entries::read_slot(list, at));
         at += stride;
     }
     sum
@@ -339,7 +311,7 @@ fn valued_at(s: &[u8], n: usize, list: &[u8], at: usize) -> u64
     if list[at + 52] == 0 {
         return 0;
     }
-    waiters(s, n, slot_in(list, at))
+    waiters(s, n, entries::read_slot(list, at))
 }
 
 // The waiters that the members of a lent answer wake with a value.
@@ -354,14 +326,6 @@ pub fn woken_valued(s: &[u8], n: usize, list: &[u8]) -> u64
         at += 85;
     }
     sum
-}
-
-// The waiters that the members of a lent answer wake with a refusal: all that it wakes but those with a value.
-pub fn woken_refused(s: &[u8], n: usize, list: &[u8]) -> u64
-    requires { ⌜ Ready n (now s) × (reads.has-duplicate (entry-slots 85 (now list)) ≡ false) ⌝ }
-    ensures { λ r. ⌜ r ≡ reads.woken (reads.refused-slots (members-of (now (list .entry)))) (pending-of n (now (s .entry))) ⌝ }
-{
-    woken(s, n, list, 85) - woken_valued(s, n, list)
 }
 
 // The number of refused members of a lent answer.
@@ -387,7 +351,7 @@ pub fn remove_all(s: &mut [u8], n: usize, list: &[u8], stride: usize) -> usize
     let mut k = n;
     let mut at = 0;
     while stride <= list.len() - at {
-        k = remove(s, k, slot_in(list, at));
+        k = remove(s, k, entries::read_slot(list, at));
         at += stride;
     }
     k

@@ -1,13 +1,13 @@
 // The calls that the benchmark times (bench/); no entry points of the store. A call's arguments are words of eight bytes, the highest byte first:
 // the anchor's number, whether it has a hash, the hash (4), the slot's address (3) and index (4), a value (4).
-use known::Looked;
-use known::PutAnswer;
-use known_advance::AdvanceReport;
-use known_advance::Advanced;
 use model::delta_snapshot::Slot;
 use model::storage_memo::Address;
 use model::storage_memo::ReadAnchor;
 use model::storage_memo::U256;
+use unchecked_advance::AdvanceReport;
+use unchecked_advance::Advanced;
+use unchecked_calls::Looked;
+use unchecked_calls::PutAnswer;
 ghost use mathlib.Core.Path.{_≡_};
 ghost use mathlib.Core.Bool.{true};
 ghost use Prim.Native.Nat.{_+_, _≤_};
@@ -105,7 +105,7 @@ pub extern "C" fn bench_known_look(s: &[u8], args: &[u8]) -> u64
     if args.len() < 136 {
         return 9;
     }
-    looked(known::look(s, anchor_of(args), slot_of(args)))
+    looked(unchecked_calls::look(s, anchor_of(args), slot_of(args)))
 }
 
 #[no_mangle]
@@ -115,7 +115,7 @@ pub extern "C" fn bench_known_get(s: &mut [u8], args: &[u8]) -> u64
     if args.len() < 136 {
         return 9;
     }
-    looked(known::get(s, anchor_of(args), slot_of(args)))
+    looked(unchecked_calls::get(s, anchor_of(args), slot_of(args)))
 }
 
 #[no_mangle]
@@ -125,7 +125,7 @@ pub extern "C" fn bench_known_put(s: &mut [u8], args: &[u8]) -> u64
     if args.len() < 136 {
         return 9;
     }
-    stored(known::put(s, anchor_of(args), slot_of(args), u256_at(args, 104)))
+    stored(unchecked_calls::put(s, anchor_of(args), slot_of(args), u256_at(args, 104)))
 }
 
 // An advance's counts, as words.
@@ -163,7 +163,7 @@ pub extern "C" fn bench_known_advance(
     }
     let child = anchor_of(args);
     let parent_hash = u256_at(args, 104);
-    let done = known_advance::advance(s, child, parent_hash, 0, addresses, writes, work, out);
+    let done = unchecked_advance::advance(s, child, parent_hash, 0, addresses, writes, work, out);
     match done {
         Advanced::No(n) => n,
         Advanced::Done(report) => {

@@ -10,12 +10,12 @@ use Rattle.model.specs.Store.{Report, opened, anchor-same, anchor-fresh, advanc
 use Rattle.model.specs.Refusals.{Answer, refuse, ok}
 use Rattle.model.proofs.EntryLaws.{SlotFits, Each, slots-back}
 use Rattle.image.specs.Output.{output-after}
-use Rattle.known_advance.specs.declared.Advanced.{Advanced}
-use Rattle.known_advance.specs.declared.Advanced.the-variants as advance
-use Rattle.known_advance.specs.Reports.{advanced-answer}
-use Rattle.known_reads.specs.declared.TakeAnswer.{TakeAnswer}
-use Rattle.known_reads.specs.declared.TakeAnswer.the-variants as take
-use Rattle.known_reads.specs.Answers.{take-answer}
+use Rattle.unchecked_advance.specs.declared.Advanced.{Advanced}
+use Rattle.unchecked_advance.specs.declared.Advanced.the-variants as advance
+use Rattle.unchecked_advance.specs.Reports.{advanced-answer}
+use Rattle.unchecked_reads.specs.declared.TakeAnswer.{TakeAnswer}
+use Rattle.unchecked_reads.specs.declared.TakeAnswer.the-variants as take
+use Rattle.unchecked_reads.specs.Answers.{take-answer}
 use Rattle.call_list.specs.Listing.{ascii, line, decimals, slot-lines, answer-lines}
 use Rattle.listing.proofs.Lengths.{delta-line-counts, refusal-line-length, counts-line-length, take-line-length, report-lines-length}
 use Rattle.call_answers.specs.declared.CallAnswer.{CallAnswer}

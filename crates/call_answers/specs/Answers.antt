@@ -6,13 +6,13 @@ use Rattle.model.specs.Advance.{AppliedWrites, CompactionReport, DeltaReport}
 use Rattle.model.specs.Entries.{first-slots}
 use Rattle.model.specs.Store.{Report, opened, anchor-same, anchor-fresh, advanced, value, no-value, stored, waiting, listed, answered}
 use Rattle.model.specs.Refusals.{Answer, refuse, ok}
-use Rattle.known_advance.specs.declared.AdvanceReport.{AdvanceReport}
-use Rattle.known_advance.specs.declared.Advanced.{Advanced}
-use Rattle.known_advance.specs.declared.Advanced.the-variants as advance
+use Rattle.unchecked_advance.specs.declared.AdvanceReport.{AdvanceReport}
+use Rattle.unchecked_advance.specs.declared.Advanced.{Advanced}
+use Rattle.unchecked_advance.specs.declared.Advanced.the-variants as advance
 use Rattle.seal.specs.declared.CompactionCounts.{CompactionCounts}
 use Rattle.seed.specs.declared.WriteCounts.{WriteCounts}
-use Rattle.known_reads.specs.declared.TakeAnswer.{TakeAnswer}
-use Rattle.known_reads.specs.declared.TakeAnswer.the-variants as take
+use Rattle.unchecked_reads.specs.declared.TakeAnswer.{TakeAnswer}
+use Rattle.unchecked_reads.specs.declared.TakeAnswer.the-variants as take
 use Rattle.listing.specs.declared.AdvanceCounts.{AdvanceCounts}
 use Rattle.listing.specs.Lines.{counts-line}
 use Rattle.call_list.specs.Listing.{ascii, line, decimals, slot-lines, refusal-line, report-lines}

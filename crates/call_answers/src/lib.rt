@@ -3,22 +3,23 @@ ghost use mathlib.Core.Path.{_≡_};
 ghost use Prim.Native.Nat.{_+_, _*_, _≤_};
 ghost use lib.ListN.{length};
 ghost use Rattle.model.specs.Entries.{first-slots};
-ghost use Rattle.known.specs.Answers.{opened-answer, installed-answer, looked-answer, put-answer};
-ghost use Rattle.known_reads.specs.Answers.{read-answer, answered-answer};
+ghost use Rattle.unchecked_calls.specs.Answers.{opened-answer, installed-answer, looked-answer, put-answer};
+ghost use Rattle.unchecked_reads.specs.Answers.{read-answer, answered-answer};
 ghost use Rattle.call_list.specs.Listing.{slot-lines};
-ghost use Rattle.listing.specs.Lines.{Written, counts-line};
+ghost use Rattle.digits.specs.Written.{Written};
+ghost use Rattle.listing.specs.Lines.{counts-line};
 ghost use Rattle.call_answers.specs.Answers.{call-answer, take-as, advance-as, counts-in, slots-listed, take-lines, lines-of};
-use known::Installed;
-use known::Looked;
-use known::Opened;
-use known::PutAnswer;
-use known_advance::AdvanceReport;
-use known_advance::Advanced;
-use known_reads::AnswerAnswer;
-use known_reads::ReadAnswer;
-use known_reads::TakeAnswer;
 use listing::AdvanceCounts;
 use model::storage_memo::U256;
+use unchecked_advance::AdvanceReport;
+use unchecked_advance::Advanced;
+use unchecked_calls::Installed;
+use unchecked_calls::Looked;
+use unchecked_calls::Opened;
+use unchecked_calls::PutAnswer;
+use unchecked_reads::AnswerAnswer;
+use unchecked_reads::ReadAnswer;
+use unchecked_reads::TakeAnswer;
 
 // A call's answer: a refusal's number, or what it reports. The slots that a take lists are in its output.
 pub enum CallAnswer {

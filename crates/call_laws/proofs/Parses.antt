@@ -15,13 +15,14 @@ use Rattle.model.specs.Slots.{identified}
 use Rattle.model.specs.Entries.{u256-at, address-of, slot-of, write-of}
 use Rattle.model.specs.Advance.{Write}
 use Rattle.model.specs.Reads.{Member}
-use Rattle.model.specs.Store.{AnchoredCall, look, get, put, read, answer, answer-failed, install, advance, at-anchor, Call, open-store, on-store}
 use Rattle.model.proofs.SlotLaws.{and-left, and-right, and-intro}
 use Rattle.image.specs.WellFormed.{fits-64, u256-fits, slot-fits, anchor-fits, retention-fits}
 use Rattle.image.specs.Claims.{outcome-fits, writes-fit, members-fit, anchored-fits, call-fits}
 use Rattle.model.proofs.EntryLaws.{bytes-tail, bytes-drop, bytes-take}
 use Rattle.image.proofs.EntriesFit.{u256-at-fits, slot-of-fits}
-use Rattle.call_list.specs.CallList.{Parsed, parsed, fault, then, number-from, parse-number, parse-bytes, parse-form, parse-entries, parse-list, parse-u256, parse-address, parse-slot, parse-write, parse-outcome, parse-member, parse-hash, parse-anchor, parse-retention, parse-limits, parse-open, parse-install, parse-advance, parse-anchored, parse-with-slot, parse-put, parse-take, parse-round, parse-answer, CodeEntry, entry, code-table, parse-of, parse-call}
+use Rattle.call_list.specs.Listed.{OpenLimits, Prepared, look, get, put, read, AnchoredCall, on-slot, answer, answer-failed, ListedCall, open-with, install, advance, at-anchor}
+use Rattle.call_list.specs.Meaning.{anchored-meaning, meaning}
+use Rattle.call_list.specs.CallList.{Parsed, parsed, fault, then, number-from, parse-number, parse-bytes, parse-form, parse-entries, parse-list, parse-u256, parse-address, parse-slot, parse-write, parse-outcome, parse-member, parse-hash, parse-anchor, parse-retention, parse-limits, parse-open, parse-install, parse-prepared, parse-advance, parse-anchored, parse-with-slot, parse-put, parse-take, parse-round, parse-answer, CodeEntry, entry, code-table, parse-of, parse-call}
 
 -- Parsers in general ----------------------------------------------------------------------------------
 
@@ -180,46 +181,50 @@ good-members = good-then good-number (λ n p. good-entries (λ m. member-fits m 
 
 -- Calls -----------------------------------------------------------------------------------------------
 
-abbrev CallFits : Call → Type 0
-CallFits c = call-fits c ≡ true
+-- What a call means fits, whatever an open of byte 0 means that fits.
+abbrev pub CallFits : ListedCall → Type 0
+CallFits c = (d : OpenLimits) → retention-fits (d .retention) ≡ true → call-fits (meaning d c) ≡ true
 
 good-retention : (f : Bool) → Good (λ R. retention-fits R ≡ true) (parse-retention f)
 good-retention false = good-done refl
 good-retention true = good-map IdleBlocks good-number (λ n p. p)
 
 good-limits : (c : ℕ) (f : Bool) → Good CallFits (parse-limits c f)
-good-limits c false = good-done refl
-good-limits c true = good-then good-number (λ d p. good-then good-form (λ f t. good-map (open-store c d) (good-retention f) (λ R q. q)))
+good-limits c false = good-done (λ d h. h)
+good-limits c true = good-then good-number (λ d p. good-then good-form (λ f t. good-map (λ R. open-with c (record { max-depth = d; retention = R })) (good-retention f) (λ R q l h. q)))
 
 good-open : Good CallFits parse-open
 good-open = good-then good-number (λ c p. good-then good-form (λ f t. good-limits c f))
 
 good-install : Good CallFits parse-install
-good-install = good-map (λ a. on-store (install a)) good-anchor (λ a q. q)
+good-install = good-map install good-anchor (λ a q d h. q)
+
+good-prepared : (k : ℕ) → Good (λ p. writes-fit (p .writes) ≡ true) (parse-prepared k)
+good-prepared k = good-then good-addresses (λ relevance v. good-map (λ ws. record { skip = k; relevance = relevance; writes = ws }) good-writes (λ ws q. q))
 
 good-advance : Good CallFits parse-advance
 good-advance =
-    good-then good-anchor (λ child p. good-then good-u256 (λ h t. good-then good-number (λ k u. good-then good-addresses (λ relevance v.
-    good-map (λ ws. on-store (advance child h k relevance ws)) good-writes (λ ws q. and-intro _ _ p q)))))
+    good-then good-anchor (λ child a. good-then good-u256 (λ h t. good-then good-number (λ k u.
+    good-map (λ (p : Prepared). advance child h p) (good-prepared k) (λ p q d i. and-intro _ _ a q))))
 
 -- Calls with an anchor first.
 abbrev AnchoredFits : AnchoredCall → Type 0
-AnchoredFits c = anchored-fits c ≡ true
+AnchoredFits c = anchored-fits (anchored-meaning c) ≡ true
 
 good-anchored : {f : List ℕ → Parsed AnchoredCall} → Good AnchoredFits f → Good CallFits (parse-anchored f)
-good-anchored u = good-then good-anchor (λ a p. good-map (λ c. on-store (at-anchor a c)) u (λ c q. q))
+good-anchored u = good-then good-anchor (λ a p. good-map (at-anchor a) u (λ c q d h. q))
 
 good-look : Good AnchoredFits (parse-with-slot look)
-good-look = good-map look good-slot (λ s q. q)
+good-look = good-map (λ s. on-slot (look s)) good-slot (λ s q. q)
 
 good-get : Good AnchoredFits (parse-with-slot get)
-good-get = good-map get good-slot (λ s q. q)
+good-get = good-map (λ s. on-slot (get s)) good-slot (λ s q. q)
 
 good-put : Good AnchoredFits parse-put
-good-put = good-then good-slot (λ s p. good-map (put s) good-u256 (λ v q. and-intro _ _ p q))
+good-put = good-then good-slot (λ s p. good-map (λ v. on-slot (put s v)) good-u256 (λ v q. and-intro _ _ p q))
 
 good-read : Good AnchoredFits (parse-with-slot read)
-good-read = good-map read good-slot (λ s q. q)
+good-read = good-map (λ s. on-slot (read s)) good-slot (λ s q. q)
 
 good-take : Good AnchoredFits parse-take
 good-take = good-done refl
@@ -236,7 +241,7 @@ good-answer = good-then good-form (λ f t. good-round f)
 -- Every code's parser is good.
 data Codes : List CodeEntry → Type 0 where
   no-code : Codes []
-  code : {k : ℕ} {f : List ℕ → Parsed Call} {es : List CodeEntry} → Good CallFits f → Codes es → Codes (entry k f ∷ es)
+  code : {k : ℕ} {f : List ℕ → Parsed ListedCall} {es : List CodeEntry} → Good CallFits f → Codes es → Codes (entry k f ∷ es)
 
 good-of : (c : ℕ) {es : List CodeEntry} → Codes es → Good CallFits (parse-of c es)
 unfolding parse-of
@@ -251,15 +256,15 @@ all-good =
     code (good-anchored good-read) (code (good-anchored good-take) (code (good-anchored good-answer) no-code))))))))
 
 -- What reading a call leaves: fewer bytes, all of them bytes, and a call whose arguments fit.
-pub record ReadOn (c : Call) (r l : List ℕ) : Type 0 where
+pub record ReadOn (c : ListedCall) (r l : List ℕ) : Type 0 where
   pub shorter : length r < length l
   pub bytes : Bytes r
-  pub fits : call-fits c ≡ true
+  pub fits : CallFits c
 
-read-on : {c : Call} {r : List ℕ} {n : ℕ} (l : List ℕ) → n < length l → After CallFits n (parsed c r) → ReadOn c r l
+read-on : {c : ListedCall} {r : List ℕ} {n : ℕ} (l : List ℕ) → n < length l → After CallFits n (parsed c r) → ReadOn c r l
 read-on l h (after-parsed q b k) = record { shorter = omega arith; bytes = b; fits = q }
 
-pub parsed-call : (l : List ℕ) (c : Call) (r : List ℕ) → Bytes l → parse-call l ≡ parsed c r → ReadOn c r l
+pub parsed-call : (l : List ℕ) (c : ListedCall) (r : List ℕ) → Bytes l → parse-call l ≡ parsed c r → ReadOn c r l
 unfolding parse-call
 parsed-call [] c r b e = let z : _≡_ {A = ℕ} 0 1 = cc in absurd (omega arith)
 parsed-call (x ∷ l) c r b e = read-on {n = length l} (x ∷ l) (omega arith) (subst (λ p. After CallFits (length l) p) e (good-of x all-good l (bytes-tail x l b)))

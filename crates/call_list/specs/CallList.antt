@@ -15,7 +15,7 @@ use Rattle.model.specs.Slots.{at, identified}
 use Rattle.model.specs.Entries.{u256-at, address-of, slot-of, write-of}
 use Rattle.model.specs.Advance.{Write}
 use Rattle.model.specs.Reads.{Member}
-use Rattle.model.specs.Store.{AnchoredCall, look, get, put, read, take as take-call, answer, answer-failed, StoreCall, install, advance, at-anchor, Call, open-store, on-store}
+use Rattle.call_list.specs.Listed.{Prepared, SlotCall, look, get, put, read, AnchoredCall, on-slot, take as take-call, answer, answer-failed, ListedCall, open-default, open-with, install, advance, at-anchor}
 
 -- What reading gives: a thing and the bytes after it; or the refusal of the fault whose byte comes first, and the bytes from that one on, which are none where the list ends.
 pub data Parsed (A : Type 0) : Type 0 where
@@ -90,39 +90,44 @@ parse-anchor l = then (parse-number l) (λ n r. then (parse-form r) (λ f q. par
 
 -- Calls -----------------------------------------------------------------------------------------------
 
--- 1 open: capacity; byte 0 for depth 8 and unbounded, or 1, depth, then byte 0 unbounded or 1 and the idle number.
+-- 1 open: capacity; byte 0, or 1, depth, then byte 0 unbounded or 1 and the idle number.
 abbrev pub parse-retention : Bool → List ℕ → Parsed Retention
 parse-retention false l = parsed Unbounded l
 parse-retention true l = then (parse-number l) (λ n r. parsed (IdleBlocks n) r)
 
-abbrev pub parse-limits : ℕ → Bool → List ℕ → Parsed Call
-parse-limits c false l = parsed (open-store c 8 Unbounded) l
-parse-limits c true l = then (parse-number l) (λ d r. then (parse-form r) (λ f q. then (parse-retention f q) (λ R p. parsed (open-store c d R) p)))
+abbrev pub parse-limits : ℕ → Bool → List ℕ → Parsed ListedCall
+parse-limits c false l = parsed (open-default c) l
+parse-limits c true l =
+    then (parse-number l) (λ d r. then (parse-form r) (λ f q. then (parse-retention f q) (λ R p. parsed (open-with c (record { max-depth = d; retention = R })) p)))
 
-abbrev pub parse-open : List ℕ → Parsed Call
+abbrev pub parse-open : List ℕ → Parsed ListedCall
 parse-open l = then (parse-number l) (λ c r. then (parse-form r) (λ f q. parse-limits c f q))
 
 -- 2 install.
-abbrev pub parse-install : List ℕ → Parsed Call
-parse-install l = then (parse-anchor l) (λ a r. parsed (on-store (install a)) r)
+abbrev pub parse-install : List ℕ → Parsed ListedCall
+parse-install l = then (parse-anchor l) (λ a r. parsed (install a) r)
 
--- 3 advance: child, parent hash, skip, count and addresses, count and writes.
-abbrev pub parse-advance : List ℕ → Parsed Call
+-- What was prepared for an advance, after its skip: count and addresses, count and writes.
+abbrev pub parse-prepared : ℕ → List ℕ → Parsed Prepared
+parse-prepared k l = then (parse-list parse-address l) (λ relevance r. then (parse-list parse-write r) (λ ws q. parsed (record { skip = k; relevance = relevance; writes = ws }) q))
+
+-- 3 advance: child, parent hash, skip, and the rest of what was prepared.
+abbrev pub parse-advance : List ℕ → Parsed ListedCall
 parse-advance l =
     then (parse-anchor l) (λ child l1. then (parse-u256 l1) (λ h l2. then (parse-number l2) (λ k l3.
-    then (parse-list parse-address l3) (λ relevance l4. then (parse-list parse-write l4) (λ ws l5. parsed (on-store (advance child h k relevance ws)) l5)))))
+    then (parse-prepared k l3) (λ p l4. parsed (advance child h p) l4))))
 
 -- 4 to 9: an anchor first, then the rest of the call.
-abbrev pub parse-anchored : (List ℕ → Parsed AnchoredCall) → List ℕ → Parsed Call
-parse-anchored f l = then (parse-anchor l) (λ a r. then (f r) (λ c q. parsed (on-store (at-anchor a c)) q))
+abbrev pub parse-anchored : (List ℕ → Parsed AnchoredCall) → List ℕ → Parsed ListedCall
+parse-anchored f l = then (parse-anchor l) (λ a r. then (f r) (λ c q. parsed (at-anchor a c) q))
 
 -- 4 look, 5 get, 7 read (slot).
-abbrev pub parse-with-slot : (Slot → AnchoredCall) → List ℕ → Parsed AnchoredCall
-parse-with-slot f l = then (parse-slot l) (λ s r. parsed (f s) r)
+abbrev pub parse-with-slot : (Slot → SlotCall) → List ℕ → Parsed AnchoredCall
+parse-with-slot f l = then (parse-slot l) (λ s r. parsed (on-slot (f s)) r)
 
 -- 6 put (slot, value).
 abbrev pub parse-put : List ℕ → Parsed AnchoredCall
-parse-put l = then (parse-slot l) (λ s r. then (parse-u256 r) (λ v q. parsed (put s v) q))
+parse-put l = then (parse-slot l) (λ s r. then (parse-u256 r) (λ v q. parsed (on-slot (put s v)) q))
 
 -- 8 take.
 abbrev pub parse-take : List ℕ → Parsed AnchoredCall
@@ -139,9 +144,9 @@ parse-answer l = then (parse-form l) (λ f r. parse-round f r)
 -- The call codes.
 pub record CodeEntry : Type 0 where
   pub code : ℕ
-  pub parse : List ℕ → Parsed Call
+  pub parse : List ℕ → Parsed ListedCall
 
-abbrev pub entry : ℕ → (List ℕ → Parsed Call) → CodeEntry
+abbrev pub entry : ℕ → (List ℕ → Parsed ListedCall) → CodeEntry
 entry c f = record { code = c; parse = f }
 
 unfoldable pub code-table : List CodeEntry
@@ -158,28 +163,28 @@ code-table =
     ∷ []
 
 -- The reader of a code; an unknown code is refusal 3.
-unfoldable pub parse-of : ℕ → List CodeEntry → List ℕ → Parsed Call
+unfoldable pub parse-of : ℕ → List CodeEntry → List ℕ → Parsed ListedCall
 parse-of c [] = λ l. fault 3 (c ∷ l)
 parse-of c (e ∷ es) = cond (eqb (e .code) c) (e .parse) (parse-of c es)
 
-unfoldable pub parse-call : List ℕ → Parsed Call
+unfoldable pub parse-call : List ℕ → Parsed ListedCall
 parse-call [] = fault 5 []
 parse-call (c ∷ l) = parse-of c code-table l
 
 -- The calls of a list, and the refusal that ends it or none.
 pub record CallList : Type 0 where
-  pub calls : List Call
+  pub calls : List ListedCall
   pub ends-with : Option ℕ
 
 -- A call before a list.
-abbrev pub add-call : Call → CallList → CallList
+abbrev pub add-call : ListedCall → CallList → CallList
 add-call c r = record { calls = c ∷ r .calls; ends-with = r .ends-with }
 
 -- The calls of a list of bytes: one after the other until the bytes end or a call is refused. A call has at least one byte, so that k bytes have at most k calls.
 abbrev pub no-more-calls : CallList
 no-more-calls = record { calls = []; ends-with = none }
 
-abbrev pub after-parse : Parsed Call → (List ℕ → CallList) → CallList
+abbrev pub after-parse : Parsed ListedCall → (List ℕ → CallList) → CallList
 after-parse (parsed c l) f = add-call c (f l)
 after-parse (fault n r) f = record { calls = []; ends-with = some n }
 

@@ -1,4 +1,6 @@
--- Call lists: how they are read, their listing, and the run of the program `calls`.
+-- Call lists: what they say, how they are read, what it means, their listing, and the run of the program `calls`.
+pub mod Listed
 pub mod CallList
+pub mod Meaning
 pub mod Listing
 pub mod Calls

@@ -11,7 +11,8 @@ use lib.ListN.{length, take, length-take}
 use Rattle.reader.specs.declared.Cursor.{Cursor}
 use Rattle.call_run.specs.declared.Ran.{Ran}
 use Rattle.call_run.specs.declared.Ran.the-variants.{No, Listed, Broken}
-use Rattle.call_run.specs.Run.{call-lines, too-short, RunTo, RanAs}
+use Rattle.call_progress.specs.Progress.{call-lines}
+use Rattle.call_run.specs.Run.{too-short, RunTo, RanAs}
 use Rattle.call_run.specs.Program.{last-run, broken-run}
 use Rattle.call_run.proofs.Room.{long-enough}
 use Rattle.call_run.proofs.Ends.{ran-forward}

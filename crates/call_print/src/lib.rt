@@ -8,6 +8,9 @@ ghost use Rattle.call_print.specs.Part.{PartAs};
 use call_run::Ran;
 use reader::Cursor;
 
+// The bytes of a store of 256 records.
+const STORE_SIZE: usize = layout::RECORDS_OFFSET + 256 * layout::RECORD_SIZE;
+
 // A part of a listing: where the next part begins, the bytes to write, and whether it is the last one.
 struct Part {
     next: usize,
@@ -51,8 +54,8 @@ fn run_part(
 fn print_parts(fd: i32, list: &[u8])
     requires { ⌜ length (now list) ≤ 65536 ⌝ }
 {
-    let mut s = [0u8; 33472];
-    let mut work = [0u8; 33472];
+    let mut s = [0u8; STORE_SIZE];
+    let mut work = [0u8; STORE_SIZE];
     let mut entries = [0u8; 53248];
     let mut members = [0u8; 105060];
     let mut out = [0u8; 65536];

@@ -4,50 +4,50 @@ use mathlib.Core.Bool.{cond}
 use mathlib.Core.List.{List}
 use lib.Dec.{eqb}
 use lib.ListN.{length, drop}
-use Rattle.model.specs.declared.storage_memo.U256.{U256}
-use Rattle.model.specs.declared.storage_memo.ReadAnchor.{ReadAnchor}
 use Rattle.model.specs.declared.delta_snapshot.Slot.{Slot}
 use Rattle.model.specs.declared.delta_snapshot.Retention.{Retention}
-use Rattle.model.specs.Store as Store
-use Rattle.call_list.specs.CallList.{Parsed, parsed, fault, then, parse-list, parse-address, parse-write, parse-with-slot, parse-put, parse-take, parse-answer}
+use Rattle.call_list.specs.Listed as listed
+use Rattle.call_list.specs.CallList.{Parsed, parsed, fault, parse-with-slot, parse-put, parse-take, parse-answer}
 use Rattle.reader.specs.Answers.{addresses-at, writes-at, slots-at, members-at, MembersWithin}
 use Rattle.call_reader.specs.declared.AnchoredCall.{AnchoredCall}
 use Rattle.call_reader.specs.declared.AnchoredCall.the-variants.{Look, Get, Put, Read, Take, Answer, AnswerFailed}
+use Rattle.call_reader.specs.declared.Prepared.{Prepared}
 use Rattle.call_reader.specs.declared.ListedCall.{ListedCall}
-use Rattle.call_reader.specs.declared.ListedCall.the-variants.{Open, Install, Advance, Anchored}
+use Rattle.call_reader.specs.declared.ListedCall.the-variants.{OpenDefault, OpenWith, Install, Advance, Anchored}
 use Rattle.call_reader.specs.declared.RetentionRead.{RetentionRead}
 use Rattle.call_reader.specs.declared.RetentionRead.the-variants as retention
+use Rattle.call_reader.specs.declared.PreparedRead.{PreparedRead}
+use Rattle.call_reader.specs.declared.PreparedRead.the-variants as prepared
 use Rattle.call_reader.specs.declared.AnchoredRead.{AnchoredRead}
 use Rattle.call_reader.specs.declared.AnchoredRead.the-variants as anchored
 use Rattle.call_reader.specs.declared.CallRead.{CallRead}
 use Rattle.call_reader.specs.declared.CallRead.the-variants as call
 
--- The call at an anchor, and the call, that an answer stands for.
-abbrev pub anchored-of : List ℕ → AnchoredCall → Store.AnchoredCall
-anchored-of s (Look x) = Store.look x
-anchored-of s (Get x) = Store.get x
-anchored-of s (Put x v) = Store.put x v
-anchored-of s (Read x) = Store.read x
-anchored-of s Take = Store.take
-anchored-of s (Answer p) = Store.answer (members-at s p)
-anchored-of s (AnswerFailed p) = Store.answer-failed (slots-at s p)
+-- What was prepared, the call at an anchor, and the call, that an answer stands for.
+abbrev pub prepared-of : List ℕ → Prepared → listed.Prepared
+prepared-of s p = record { skip = p .skip; relevance = addresses-at s (p .relevance); writes = writes-at s (p .writes) }
 
-abbrev pub call-of : List ℕ → ListedCall → Store.Call
-call-of s (Open c d R) = Store.open-store c d R
-call-of s (Install a) = Store.on-store (Store.install a)
-call-of s (Advance a h k p q) = Store.on-store (Store.advance a h k (addresses-at s p) (writes-at s q))
-call-of s (Anchored a c) = Store.on-store (Store.at-anchor a (anchored-of s c))
+abbrev pub anchored-of : List ℕ → AnchoredCall → listed.AnchoredCall
+anchored-of s (Look x) = listed.on-slot (listed.look x)
+anchored-of s (Get x) = listed.on-slot (listed.get x)
+anchored-of s (Put x v) = listed.on-slot (listed.put x v)
+anchored-of s (Read x) = listed.on-slot (listed.read x)
+anchored-of s Take = listed.take
+anchored-of s (Answer p) = listed.answer (members-at s p)
+anchored-of s (AnswerFailed p) = listed.answer-failed (slots-at s p)
 
--- An advance's addresses and writes.
-abbrev pub parse-lists : ReadAnchor → U256 → ℕ → List ℕ → Parsed Store.Call
-parse-lists child h k l =
-    then (parse-list parse-address l) (λ relevance r. then (parse-list parse-write r) (λ ws q. parsed (Store.on-store (Store.advance child h k relevance ws)) q))
+abbrev pub call-of : List ℕ → ListedCall → listed.ListedCall
+call-of s (OpenDefault c) = listed.open-default c
+call-of s (OpenWith c d R) = listed.open-with c (record { max-depth = d; retention = R })
+call-of s (Install a) = listed.install a
+call-of s (Advance a h p) = listed.advance a h (prepared-of s p)
+call-of s (Anchored a c) = listed.at-anchor a (anchored-of s c)
 
 -- A look, get or read of a slot, codes 4, 5 and 7; and what stands after the anchor, of the codes 4 to 9.
-abbrev pub slot-call : ℕ → Slot → Store.AnchoredCall
-slot-call code x = cond (eqb code 4) (Store.look x) (cond (eqb code 5) (Store.get x) (Store.read x))
+abbrev pub slot-call : ℕ → Slot → listed.SlotCall
+slot-call code x = cond (eqb code 4) (listed.look x) (cond (eqb code 5) (listed.get x) (listed.read x))
 
-abbrev pub parse-rest : ℕ → List ℕ → Parsed Store.AnchoredCall
+abbrev pub parse-rest : ℕ → List ℕ → Parsed listed.AnchoredCall
 parse-rest code = cond (eqb code 6) parse-put (cond (eqb code 8) parse-take (cond (eqb code 9) parse-answer (parse-with-slot (slot-call code))))
 
 -- Each answer: what was read and the bytes after it, or a fault and the bytes from its place on. Then the place after what was read, or the fault's.
@@ -59,7 +59,15 @@ abbrev pub retention-next : RetentionRead → ℕ
 retention-next (retention.Value x c) = c .at
 retention-next (retention.Fault n c) = c .at
 
-abbrev pub anchored-answer : List ℕ → AnchoredRead → Parsed Store.AnchoredCall
+abbrev pub prepared-answer : List ℕ → PreparedRead → Parsed listed.Prepared
+prepared-answer s (prepared.Value x c) = parsed (prepared-of s x) (drop (c .at) s)
+prepared-answer s (prepared.Fault n c) = fault n (drop (c .at) s)
+
+abbrev pub prepared-next : PreparedRead → ℕ
+prepared-next (prepared.Value x c) = c .at
+prepared-next (prepared.Fault n c) = c .at
+
+abbrev pub anchored-answer : List ℕ → AnchoredRead → Parsed listed.AnchoredCall
 anchored-answer s (anchored.Value x c) = parsed (anchored-of s x) (drop (c .at) s)
 anchored-answer s (anchored.Fault n c) = fault n (drop (c .at) s)
 
@@ -67,7 +75,7 @@ abbrev pub anchored-next : AnchoredRead → ℕ
 anchored-next (anchored.Value x c) = c .at
 anchored-next (anchored.Fault n c) = c .at
 
-abbrev pub call-answer : List ℕ → CallRead → Parsed Store.Call
+abbrev pub call-answer : List ℕ → CallRead → Parsed listed.ListedCall
 call-answer s (call.Value x c) = parsed (call-of s x) (drop (c .at) s)
 call-answer s (call.Fault n c) = fault n (drop (c .at) s)
 
@@ -81,6 +89,9 @@ call-progress at (call.Value x c) = at < c .at
 call-progress at (call.Fault n c) = Unit {0}
 
 -- Where the spans of a call stand: within the list. An answer's members end at the next place.
+abbrev pub prepared-within : List ℕ → Prepared → Type 0
+prepared-within s p = (p .relevance .start + p .relevance .count * 20 ≤ length s) × (p .writes .start + p .writes .count * 84 ≤ length s)
+
 abbrev pub anchored-within : List ℕ → ℕ → AnchoredCall → Type 0
 anchored-within s next (Look x) = Unit {0}
 anchored-within s next (Get x) = Unit {0}
@@ -91,10 +102,15 @@ anchored-within s next (Answer p) = MembersWithin s p next
 anchored-within s next (AnswerFailed p) = p .start + p .count * 52 ≤ length s
 
 abbrev pub call-within : List ℕ → ℕ → ListedCall → Type 0
-call-within s next (Open c d R) = Unit {0}
+call-within s next (OpenDefault c) = Unit {0}
+call-within s next (OpenWith c d R) = Unit {0}
 call-within s next (Install a) = Unit {0}
-call-within s next (Advance a h k p q) = (p .start + p .count * 20 ≤ length s) × (q .start + q .count * 84 ≤ length s)
+call-within s next (Advance a h p) = prepared-within s p
 call-within s next (Anchored a c) = anchored-within s next c
+
+abbrev pub prepared-spans : List ℕ → PreparedRead → Type 0
+prepared-spans s (prepared.Value x c) = prepared-within s x
+prepared-spans s (prepared.Fault n c) = Unit {0}
 
 abbrev pub anchored-spans : List ℕ → AnchoredRead → Type 0
 anchored-spans s (anchored.Value x c) = anchored-within s (c .at) x

@@ -4,11 +4,11 @@ ghost use mathlib.Core.Bool.{true};
 ghost use mathlib.Core.List.{List};
 ghost use Prim.Native.Nat.{ℕ, _+_, _≤_, _<_};
 ghost use lib.ListN.{length, drop};
-ghost use Rattle.call_list.specs.CallList.{parse-retention, parse-limits, parse-open, parse-install, parse-advance, parse-put, parse-round, parse-answer, parse-with-slot, parse-anchored, parse-call};
+ghost use Rattle.call_list.specs.CallList.{parse-retention, parse-limits, parse-open, parse-install, parse-prepared, parse-advance, parse-put, parse-round, parse-answer, parse-with-slot, parse-anchored, parse-call};
 ghost use Rattle.reader.specs.Answers.{Reading};
-ghost use Rattle.call_reader.specs.Calls.{retention-answer, retention-next, anchored-answer, anchored-next, call-answer, call-next};
-ghost use Rattle.call_reader.specs.Calls.{anchored-of, anchored-within, anchored-spans, call-progress, call-spans, slot-call, parse-rest, parse-lists};
-use model::delta_snapshot::DEFAULT_MAX_DEPTH;
+ghost use Rattle.call_list.specs.Listed.{on-slot};
+ghost use Rattle.call_reader.specs.Calls.{retention-answer, retention-next, prepared-answer, prepared-next, prepared-spans, anchored-answer, anchored-next, call-answer, call-next};
+ghost use Rattle.call_reader.specs.Calls.{anchored-of, anchored-within, anchored-spans, call-progress, call-spans, slot-call, parse-rest};
 use model::delta_snapshot::Retention;
 use model::delta_snapshot::Slot;
 use model::storage_memo::ReadAnchor;
@@ -45,11 +45,25 @@ pub enum AnchoredRead {
     Fault(u64, Cursor),
 }
 
-// A call. An advance has child, parent hash, skip, addresses of 20 bytes each and writes of 84.
+// What was prepared for an advance: skip, relevant addresses of 20 bytes each and writes of 84.
+pub struct Prepared {
+    pub skip: u64,
+    pub relevance: Span,
+    pub writes: Span,
+}
+
+// What was prepared, as it was read.
+pub enum PreparedRead {
+    Value(Prepared, Cursor),
+    Fault(u64, Cursor),
+}
+
+// A call, as the list says it. An open has its capacity alone, or depth and retention too. An advance has child and parent hash.
 pub enum ListedCall {
-    Open(u64, u64, Retention),
+    OpenDefault(u64),
+    OpenWith(u64, u64, Retention),
     Install(ReadAnchor),
-    Advance(ReadAnchor, U256, u64, Span, Span),
+    Advance(ReadAnchor, U256, Prepared),
     Anchored(ReadAnchor, AnchoredCall),
 }
 
@@ -87,7 +101,7 @@ fn read_depth(s: &[u8], capacity: u64, c: Cursor) -> CallRead
         Number::Value(depth, form) => match reader::read_form(s, form) {
             Form::Value(idle, rest) => match read_retention(s, idle, rest) {
                 RetentionRead::Value(retention, next) => CallRead::Value(
-                    ListedCall::Open(capacity, depth, retention),
+                    ListedCall::OpenWith(capacity, depth, retention),
                     next,
                 ),
                 RetentionRead::Fault(n, place) => CallRead::Fault(n, place),
@@ -98,7 +112,7 @@ fn read_depth(s: &[u8], capacity: u64, c: Cursor) -> CallRead
     }
 }
 
-// An open's limits, by its form byte: depth 8 and unbounded, or both named.
+// An open's limits, by its form byte: none named, or both.
 fn read_limits(s: &[u8], capacity: u64, named: bool, c: Cursor) -> CallRead
     requires { ⌜ c .at ≤ length (now s) ⌝ }
     ensures reading { λ r. ⌜ Reading (call-answer (now (s .entry)) r) (parse-limits capacity named (drop (c .at) (now (s .entry)))) (c .at) (call-next r) (length (now (s .entry))) ⌝ }
@@ -107,10 +121,7 @@ fn read_limits(s: &[u8], capacity: u64, named: bool, c: Cursor) -> CallRead
     if named {
         read_depth(s, capacity, c)
     } else {
-        CallRead::Value(
-            ListedCall::Open(capacity, DEFAULT_MAX_DEPTH, Retention::DEFAULT),
-            c,
-        )
+        CallRead::Value(ListedCall::OpenDefault(capacity), c)
     }
 }
 
@@ -141,27 +152,31 @@ fn read_install(s: &[u8], c: Cursor) -> CallRead
     }
 }
 
-// An advance's addresses and writes.
-fn read_lists(s: &[u8], child: ReadAnchor, parent_hash: U256, skip: u64, c: Cursor) -> CallRead
+// What was prepared for an advance, after its skip: count and addresses, count and writes.
+fn read_prepared(s: &[u8], skip: u64, c: Cursor) -> PreparedRead
     requires { ⌜ c .at ≤ length (now s) ⌝ }
-    ensures reading { λ r. ⌜ Reading (call-answer (now (s .entry)) r) (parse-lists child «parent_hash» skip (drop (c .at) (now (s .entry)))) (c .at) (call-next r) (length (now (s .entry))) ⌝ }
-    ensures spans { λ r. ⌜ call-spans (now (s .entry)) r ⌝ }
+    ensures reading { λ r. ⌜ Reading (prepared-answer (now (s .entry)) r) (parse-prepared skip (drop (c .at) (now (s .entry)))) (c .at) (prepared-next r) (length (now (s .entry))) ⌝ }
+    ensures spans { λ r. ⌜ prepared-spans (now (s .entry)) r ⌝ }
 {
     match reader::read_entries(s, 20, c) {
-        SpanRead::Value(addresses, rest) => match reader::read_entries(s, 84, rest) {
+        SpanRead::Value(relevance, rest) => match reader::read_entries(s, 84, rest) {
             SpanRead::Value(writes, next) => {
-                CallRead::Value(
-                    ListedCall::Advance(child, parent_hash, skip, addresses, writes),
+                PreparedRead::Value(
+                    Prepared {
+                        skip,
+                        relevance,
+                        writes,
+                    },
                     next,
                 )
             }
-            SpanRead::Fault(n, place) => CallRead::Fault(n, place),
+            SpanRead::Fault(n, place) => PreparedRead::Fault(n, place),
         },
-        SpanRead::Fault(n, place) => CallRead::Fault(n, place),
+        SpanRead::Fault(n, place) => PreparedRead::Fault(n, place),
     }
 }
 
-// 3 advance: child, parent hash, skip, count and addresses, count and writes.
+// 3 advance: child, parent hash, skip, and the rest of what was prepared.
 fn read_advance(s: &[u8], c: Cursor) -> CallRead
     requires { ⌜ c .at ≤ length (now s) ⌝ }
     ensures reading { λ r. ⌜ Reading (call-answer (now (s .entry)) r) (parse-advance (drop (c .at) (now (s .entry)))) (c .at) (call-next r) (length (now (s .entry))) ⌝ }
@@ -170,7 +185,13 @@ fn read_advance(s: &[u8], c: Cursor) -> CallRead
     match reader::read_anchor(s, c) {
         AnchorRead::Value(child, hash) => match reader::read_u256(s, hash) {
             Word::Value(parent_hash, number) => match reader::read_number(s, number) {
-                Number::Value(skip, lists) => read_lists(s, child, parent_hash, skip, lists),
+                Number::Value(skip, rest) => match read_prepared(s, skip, rest) {
+                    PreparedRead::Value(prepared, next) => CallRead::Value(
+                        ListedCall::Advance(child, parent_hash, prepared),
+                        next,
+                    ),
+                    PreparedRead::Fault(n, place) => CallRead::Fault(n, place),
+                },
                 Number::Fault(n, place) => CallRead::Fault(n, place),
             },
             Word::Fault(n, place) => CallRead::Fault(n, place),
@@ -181,7 +202,7 @@ fn read_advance(s: &[u8], c: Cursor) -> CallRead
 
 // A look, get or read, by its code.
 fn slot_call(code: u8, slot: Slot) -> AnchoredCall
-    ensures means { λ r. ⌜ ((s : List ℕ) → anchored-of s r ≡ slot-call code slot) ⌝ }
+    ensures means { λ r. ⌜ ((s : List ℕ) → anchored-of s r ≡ on-slot (slot-call code slot)) ⌝ }
     ensures spans { λ r. ⌜ ((s : List ℕ) (n : ℕ) → anchored-within s n r) ⌝ }
 {
     if code == 4 {

@@ -8,10 +8,12 @@ use native.Mathlib.Omega.{arith}
 use lib.Dec.{leb}
 use lib.ListN.{length, take}
 use lib.Seq.{length-take-le}
-use Rattle.model.specs.Store.{Call}
+use Rattle.call_list.specs.Listed.{ListedCall}
+use Rattle.call_list.specs.Meaning.{default-limits}
 use Rattle.call_laws.proofs.Listing.{bytes-lines, lines-none}
-use Rattle.call_run.specs.declared.Progress.{Progress}
-use Rattle.call_run.specs.Run.{call-lines, CallsTo, no-call, call-then, FaultAt, RunTo}
+use Rattle.call_progress.specs.declared.Progress.{Progress}
+use Rattle.call_progress.specs.Progress.{call-lines}
+use Rattle.call_run.specs.Run.{CallsTo, no-call, call-then, FaultAt, RunTo}
 use Rattle.call_run.specs.Inner.{fault-met, RunOn}
 use Rattle.call_run.proofs.Reached.{calls-forward}
 
@@ -45,8 +47,8 @@ module _ (w e : ℕ) (list b out : List ℕ) (from : ℕ) (known : Bool) (b1 out
   ran-broken h = (u .to, ran-so (u .to) true refl h, u .reached .stopped h .1)
 
 -- Calls that wrote something lead to a later place.
-calls-past : (w e : ℕ) (b : List ℕ) {list : List ℕ} {from next : ℕ} {cs : List Call} → CallsTo list from next cs → 0 < length (bytes-lines w e b cs) → from < next
-calls-past w e b no-call h = absurd (omega (arith, ap length (lines-none w e b)))
+calls-past : (w e : ℕ) (b : List ℕ) {list : List ℕ} {from next : ℕ} {cs : List ListedCall} → CallsTo list from next cs → 0 < length (bytes-lines default-limits w e b cs) → from < next
+calls-past w e b no-call h = absurd (omega (arith, ap length (lines-none default-limits w e b)))
 calls-past w e b (call-then p k m u) h = omega (arith, calls-forward u)
 
 -- A run that had room for a call's lines, and has none now, leads to a later place.
@@ -54,5 +56,5 @@ pub ran-forward : {w e : ℕ} {list : List ℕ} {from next written : ℕ} {b out
     → RunTo w e list from next none written b out after out-after → call-lines ≤ length out → length out < written + call-lines → from < next
 ran-forward {w = w} {e = e} {written = written} {b = b} {out-after = out-after} u h k =
     let n : length (take written out-after) ≡ written = length-take-le written out-after (omega (arith, u .written-within, u .same-length)) in
-    let m : length (take written out-after) ≡ length (bytes-lines w e b (u .calls)) = ap length (u .text-is ∙ append-nil (bytes-lines w e b (u .calls))) in
+    let m : length (take written out-after) ≡ length (bytes-lines default-limits w e b (u .calls)) = ap length (u .text-is ∙ append-nil (bytes-lines default-limits w e b (u .calls))) in
     calls-past w e b (u .calls-are) (omega arith)

@@ -6,8 +6,9 @@ use mathlib.Core.Option.{Option}
 use native.Mathlib.Omega.{arith}
 use lib.ListN.{length, take, drop, length-drop, take-append-drop}
 use lib.Seq.{length-take-le}
-use Rattle.model.specs.Store.{Call}
 use Rattle.image.specs.Image.{bytes-final}
+use Rattle.call_list.specs.Listed.{ListedCall}
+use Rattle.call_list.specs.Meaning.{default-limits}
 use Rattle.call_list.specs.CallList.{parsed}
 use Rattle.call_list.specs.Listing.{end-line}
 use Rattle.call_laws.specs.Runs.{lent-each}
@@ -20,7 +21,7 @@ same-place : (list : List ℕ) (m n : ℕ) → m ≤ length list → n ≤ lengt
 same-place list m n h k e = omega (arith, length-drop m list, length-drop n list, ap length e)
 
 -- The calls between two places.
-calls-once : {list : List ℕ} {from next : ℕ} {cs ds : List Call} → CallsTo list from next cs → CallsTo list from next ds → cs ≡ ds
+calls-once : {list : List ℕ} {from next : ℕ} {cs ds : List ListedCall} → CallsTo list from next cs → CallsTo list from next ds → cs ≡ ds
 calls-once no-call no-call = refl
 calls-once no-call (call-then e h k u) = absurd (omega (arith, calls-forward u))
 calls-once (call-then e h k u) no-call = absurd (omega (arith, calls-forward u))
@@ -29,7 +30,7 @@ calls-once {list} {from} {next} (call-then {at = at} {c = c} {cs = cs} e h k u) 
     let q : drop at list ≡ drop at' list = cc in
     let s : c ≡ c' = cc in
     let r : at' ≡ at = sym (same-place list at at' k k' q) in
-    ap₂ (λ (x : Call) (y : List Call). x ∷ y) s (calls-once u (subst (λ (x : ℕ). CallsTo list x next ds) r v))
+    ap₂ (λ (x : ListedCall) (y : List ListedCall). x ∷ y) s (calls-once u (subst (λ (x : ℕ). CallsTo list x next ds) r v))
 
 -- The rest of a run.
 module _ {w e : ℕ} {list : List ℕ} {from next : ℕ} {end : Option ℕ} {b out : List ℕ} {m n : ℕ} {a o a' o' : List ℕ} (u : RunTo w e list from next end m b out a o) (v : RunTo w e list from next end n b out a' o') where
@@ -37,10 +38,10 @@ module _ {w e : ℕ} {list : List ℕ} {from next : ℕ} {end : Option ℕ} {b o
   same-calls = calls-once (u .calls-are) (v .calls-are)
 
   pub bytes-once : a ≡ a'
-  bytes-once = u .bytes-are ∙ ap (λ (cs : List Call). bytes-final b (lent-each w e cs)) same-calls ∙ sym (v .bytes-are)
+  bytes-once = u .bytes-are ∙ ap (λ (cs : List ListedCall). bytes-final b (lent-each default-limits w e cs)) same-calls ∙ sym (v .bytes-are)
 
   text-once : take m o ≡ take n o'
-  text-once = u .text-is ∙ ap (λ (cs : List Call). bytes-lines w e b cs ++ end-line end) same-calls ∙ sym (v .text-is)
+  text-once = u .text-is ∙ ap (λ (cs : List ListedCall). bytes-lines default-limits w e b cs ++ end-line end) same-calls ∙ sym (v .text-is)
 
   pub written-once : m ≡ n
   written-once =

@@ -5,19 +5,19 @@ use mathlib.Core.Bool.{Bool, true, false, cond, true≢false}
 use mathlib.Core.List.{List, [], _++_}
 use mathlib.Core.Option.{some, none}
 use native.Mathlib.Omega.{arith}
-use Rattle.model.specs.Store.{Call}
+use Rattle.call_list.specs.Listed.{ListedCall}
 use Rattle.call_list.specs.Listing.{end-line}
-use Rattle.call_run.specs.declared.Progress.{Progress}
+use Rattle.call_progress.specs.declared.Progress.{Progress}
 use Rattle.call_run.specs.Run.{CallsTo, no-call, call-then, FaultAt}
 use Rattle.call_run.specs.Inner.{fault-met, Reached}
 
 -- Calls after calls.
-pub calls-then : {list : List ℕ} {from mid to : ℕ} {cs ds : List Call} → CallsTo list from mid cs → CallsTo list mid to ds → CallsTo list from to (cs ++ ds)
+pub calls-then : {list : List ℕ} {from mid to : ℕ} {cs ds : List ListedCall} → CallsTo list from mid cs → CallsTo list mid to ds → CallsTo list from to (cs ++ ds)
 calls-then no-call v = v
 calls-then (call-then e h k u) v = call-then e h k (calls-then u v)
 
 -- They lead on.
-pub calls-forward : {list : List ℕ} {from to : ℕ} {cs : List Call} → CallsTo list from to cs → from ≤ to
+pub calls-forward : {list : List ℕ} {from to : ℕ} {cs : List ListedCall} → CallsTo list from to cs → from ≤ to
 calls-forward no-call = omega arith
 calls-forward (call-then e h k u) = omega (arith, calls-forward u)
 

@@ -19,7 +19,8 @@ use Rattle.call_answers.specs.Answers.{call-answer, slots-listed}
 use Rattle.call_answers.proofs.Lines.{lines-are, lines-length}
 use Rattle.call_steps.specs.Steps.{with-lent, SteppedAs}
 use Rattle.call_steps.proofs.After.{answer-room}
-use Rattle.call_run.specs.Run.{call-lines, LinesFit, too-short}
+use Rattle.call_progress.specs.Progress.{call-lines}
+use Rattle.call_run.specs.Run.{LinesFit, too-short}
 
 -- The lines of a call fit.
 pub lines-fit-lent : (b : List ℕ) (c : Call) (w : ℕ) (entries : List ℕ) → length (answer-lines (bytes-step b (with-lent c w entries) .answer)) ≤ call-lines

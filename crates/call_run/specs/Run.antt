@@ -6,19 +6,17 @@ use mathlib.Core.List.{List, [], _∷_, _++_}
 use mathlib.Core.Option.{Option, some, none}
 use lib.Dec.{leb, ltb}
 use lib.ListN.{length, take, drop}
-use Rattle.model.specs.Store.{Call}
 use Rattle.image.specs.Image.{BytesCall, bytes-step, bytes-trace, bytes-final}
+use Rattle.call_list.specs.Listed.{ListedCall}
+use Rattle.call_list.specs.Meaning.{default-limits}
 use Rattle.call_list.specs.CallList.{parsed, fault, parse-call}
 use Rattle.call_list.specs.Listing.{answer-lines, answers-lines, end-line}
 use Rattle.call_laws.specs.Runs.{lent-each}
+use Rattle.call_progress.specs.Progress.{call-lines}
 use Rattle.call_run.specs.declared.Ran.{Ran}
 use Rattle.call_run.specs.declared.Ran.the-variants.{No, Listed, Broken}
 
--- The room that a run asks for a call's lines: 197 bytes, and 110 for each of the 64 slots that a take lists at most.
-abbrev pub call-lines : ℕ
-call-lines = 7237
-
--- It is enough for the lines of every call.
+-- The room that a run asks for a call's lines is enough for those of every call.
 abbrev pub LinesFit : Type 0
 LinesFit = (b : List ℕ) (c : BytesCall) → length (answer-lines (bytes-step b c .answer)) ≤ call-lines
 
@@ -27,9 +25,9 @@ abbrev pub too-short : List ℕ → List ℕ → List ℕ → Bool
 too-short list members out = ltb (length out) call-lines || ltb (length members) (length list / 53 * 85)
 
 -- The calls that a list reads as from a place to another.
-pub data CallsTo (list : List ℕ) : ℕ → ℕ → List Call → Type 0 where
+pub data CallsTo (list : List ℕ) : ℕ → ℕ → List ListedCall → Type 0 where
   no-call : {at : ℕ} → CallsTo list at at []
-  call-then : {from at next : ℕ} {c : Call} {cs : List Call}
+  call-then : {from at next : ℕ} {c : ListedCall} {cs : List ListedCall}
       → parse-call (drop from list) ≡ parsed c (drop at list) → from < at → at ≤ length list → CallsTo list at next cs → CallsTo list from next (c ∷ cs)
 
 -- A list reads as a fault at a place: its number, and the place of its byte.
@@ -42,10 +40,10 @@ pub record FaultAt (list : List ℕ) (at n place : ℕ) : Type 0 where
 -- A run from a place to another: the calls performed are those that the list reads as between the two, and the bytes are as these calls leave them.
 -- The text written is the lines of their answers, and of the fault if one ended the list; the output past it is as it was.
 pub record RunTo (w e : ℕ) (list : List ℕ) (from next : ℕ) (ends-with : Option ℕ) (written : ℕ) (before out after out-after : List ℕ) : Type 0 where
-  pub calls : List Call
+  pub calls : List ListedCall
   pub calls-are : CallsTo list from next calls
-  pub bytes-are : after ≡ bytes-final before (lent-each w e calls)
-  pub text-is : take written out-after ≡ answers-lines (bytes-trace before (lent-each w e calls)) ++ end-line ends-with
+  pub bytes-are : after ≡ bytes-final before (lent-each default-limits w e calls)
+  pub text-is : take written out-after ≡ answers-lines (bytes-trace before (lent-each default-limits w e calls)) ++ end-line ends-with
   pub rest-is : drop written out-after ≡ drop written out
   pub written-within : written ≤ length out
   pub same-length : length out-after ≡ length out

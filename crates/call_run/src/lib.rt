@@ -1,28 +1,16 @@
 // The run of a call list: its calls one after the other, and their lines. docs/REFERENCE.md describes it.
 ghost use mathlib.Core.Path.{_≡_};
-ghost use mathlib.Core.Bool.{false, not, _&&_};
-ghost use Prim.Native.Nat.{_+_, _-_, _*_, _/_, _≤_, _<_};
-ghost use lib.Dec.{leb};
+ghost use mathlib.Core.Bool.{false};
+ghost use Prim.Native.Nat.{_+_, _*_, _/_, _≤_, _<_};
 ghost use lib.ListN.{length};
-ghost use Rattle.call_run.specs.Run.{call-lines, LinesFit, too-short, RanAs};
+ghost use Rattle.call_progress.specs.Progress.{call-lines};
+ghost use Rattle.call_run.specs.Run.{LinesFit, too-short, RanAs};
 ghost use Rattle.call_run.specs.Inner.{RunAt, RunOn};
 ghost use Rattle.call_run.specs.Program.{ProgramPrints};
+pub use call_progress::CALL_LINES;
+use call_progress::Progress;
 use call_reader::CallRead;
 use reader::Cursor;
-
-// The room for a call's lines: 197 bytes, and 110 for each of the 64 slots that a take lists at most.
-pub const CALL_LINES: usize = 7237;
-
-// Where a run is: the next call's place in the list, the next line's in the output, whether the bytes are a store, whether the list has ended, whether a fault ended it, and that fault and its place.
-struct Progress {
-    next: usize,
-    at: usize,
-    known: bool,
-    ended: bool,
-    broken: bool,
-    fault: u64,
-    place: usize,
-}
 
 // A run's answer: 9; or the place of the next call, the bytes written and whether the list has ended; or the fault that ended the list, its place and the bytes written.
 pub enum Ran {
@@ -49,37 +37,13 @@ fn run_call(
         CallRead::Value(call, after) => {
             let a = call_steps::step(list, call, t.known, s, work, entries, members);
             let at = call_answers::answer_lines(out, t.at, a, entries);
-            Progress {
-                next: after.at,
-                at,
-                known: call_steps::known_after(t.known, a),
-                ended: list.len() <= after.at,
-                broken: false,
-                fault: 0,
-                place: 0,
-            }
+            call_progress::after_call(list, t, a, after, at)
         }
-        CallRead::Fault(n, place) => Progress {
-            next: list.len(),
-            at: listing::refusal_line(out, t.at, n),
-            known: t.known,
-            ended: true,
-            broken: true,
-            fault: n,
-            place: place.at,
-        },
+        CallRead::Fault(n, place) => {
+            let at = listing::refusal_line(out, t.at, n);
+            call_progress::after_fault(list, t, n, place, at)
+        }
     }
-}
-
-// Whether a run goes on: the list has not ended, and the output has room for the lines of another call.
-fn goes_on(t: Progress, out: &[u8]) -> bool
-    requires { ⌜ t .at ≤ length (now out) ⌝ }
-    ensures { λ r. ⌜ r ≡ (not (t .ended) && leb call-lines (length (now (out .entry)) - t .at)) ⌝ }
-{
-    if t.ended {
-        return false;
-    }
-    CALL_LINES <= out.len() - t.at
 }
 
 // The calls of a list from a place on, one after the other, as long as the output has room for a call's lines.
@@ -97,7 +61,7 @@ fn run_calls(
     ensures room { λ r. ⌜ (r .ended ≡ false → length (now (out .entry)) < r .at + call-lines) ⌝ }
 {
     let mut t = first;
-    while goes_on(t, out) {
+    while call_progress::goes_on(t, out) {
         t = run_call(list, t, s, work, entries, members, out);
     }
     t

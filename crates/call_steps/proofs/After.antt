@@ -31,14 +31,15 @@ use Rattle.image.proofs.Facts.{GenerationFacts, generation-facts, store-facts}
 use Rattle.image.proofs.ReadBack.{decode-some}
 use Rattle.image.proofs.OnBytes.{step-holds}
 use Rattle.image.proofs.Closure.{closure}
-use Rattle.known.proofs.Turned.{memory-of}
+use Rattle.unchecked_calls.proofs.Turned.{memory-of}
 use Rattle.awaiting.proofs.Entries.{length-slot}
 use Rattle.call_answers.specs.declared.CallAnswer.{CallAnswer}
 use Rattle.call_answers.specs.declared.CallAnswer.the-variants.{No, Open, AnchorSame, AnchorFresh, Advance, Value as Found, Nothing, Put, Wait, Take, Answer as Answered}
 use Rattle.call_answers.specs.Answers.{call-answer, slots-listed}
-use Rattle.known_reads.proofs.Queue.{queued-fit}
+use Rattle.unchecked_reads.proofs.Queue.{queued-fit}
 use Rattle.call_answers.proofs.Lines.{listed-in, SlotsFit, slots-listed-count}
-use Rattle.call_steps.specs.Steps.{with-lent, store-after}
+use Rattle.call_progress.specs.Progress.{store-after}
+use Rattle.call_steps.specs.Steps.{with-lent}
 use Rattle.call_steps.proofs.Said.{IsAdvanced, is-advanced, reported}
 
 -- Whether the bytes are a store ---------------------------------------------------------------------------

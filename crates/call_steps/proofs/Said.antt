@@ -1,7 +1,7 @@
 -- What a call comes to on bytes with what is lent to it. Assumes nothing.
 use Prim.Native.Nat.{ℕ, suc, _≤_}
 use mathlib.Core.Path.{_≡_, refl, sym, ap, subst, _∙_}
-use mathlib.Core.Bool.{true, false}
+use mathlib.Core.Bool.{false}
 use mathlib.Core.List.{List, [], _∷_}
 use mathlib.Core.Option.{Option, some, none}
 use native.Mathlib.Omega.{arith}
@@ -13,35 +13,33 @@ use Rattle.model.specs.declared.delta_snapshot.Retention.{Retention}
 use Rattle.model.specs.declared.storage_memo.Address.{Address}
 use Rattle.model.specs.Slots.{anchor-eqb}
 use Rattle.model.specs.Advance.{Write, WriteKind, overwrite, new, skip, AppliedWrites, DeltaReport, relevant, final-write-kind, apply-write, count-write, seed-final-writes, compact-base, seal, void-base, classify-link, skip-of, carries}
-use Rattle.model.specs.Reads.{Member, has-duplicate}
+use Rattle.model.specs.Reads.{Member}
 use Rattle.model.specs.Layers.{Layer, find, is-some, freshest-use}
 use Rattle.model.specs.Entries.{slots-bytes}
-use Rattle.model.specs.Store.{Config, Generation, AnchoredCall, look, get, put, read, take, answer, answer-failed, StoreCall, install, advance, at-anchor, Call, open-store, on-store, Report, advanced, Memory, perform, carry, cold-advance}
-use Rattle.model.specs.Refusals.{answered-slots, Answer, refuse, refusal, conditions, lent-too-short, output-short-of-queue, step}
+use Rattle.model.specs.Store.{Config, Generation, look, get, put, read, take, answer, answer-failed, StoreCall, install, advance, at-anchor, Call, open-store, on-store, Report, advanced, Memory, perform, carry, cold-advance}
+use Rattle.model.specs.Refusals.{Answer, refuse, refusal, conditions, lent-too-short, output-short-of-queue, step}
 use Rattle.model.proofs.SlotLaws.{split, not-both}
 use Rattle.image.specs.Image.{decode, BytesResult, bytes-step}
-use Rattle.image.specs.Lent.{store-of, IsStore}
 use Rattle.image.specs.Output.{output-after}
-use Rattle.known.specs.declared.Opened.{Opened}
-use Rattle.known.specs.declared.Opened.the-variants as opened
-use Rattle.known.specs.declared.Installed.{Installed}
-use Rattle.known.specs.declared.Installed.the-variants as installed
-use Rattle.known.specs.declared.Looked.{Looked}
-use Rattle.known.specs.declared.Looked.the-variants as looked
-use Rattle.known.specs.declared.PutAnswer.{PutAnswer}
-use Rattle.known.specs.declared.PutAnswer.the-variants as stored
-use Rattle.known.specs.Answers.{opened-answer, installed-answer, looked-answer, put-answer, alone, Stepped}
-use Rattle.known.proofs.Turned.{no-store}
-use Rattle.known_reads.specs.declared.ReadAnswer.{ReadAnswer}
-use Rattle.known_reads.specs.declared.ReadAnswer.the-variants as waited
-use Rattle.known_reads.specs.declared.AnswerAnswer.{AnswerAnswer}
-use Rattle.known_reads.specs.declared.AnswerAnswer.the-variants as answered
-use Rattle.known_reads.specs.declared.TakeAnswer.{TakeAnswer}
-use Rattle.known_reads.specs.Answers.{read-answer, answered-answer, with-output, Took}
-use Rattle.known_reads.proofs.Turned.{twice}
-use Rattle.known_reads.proofs.Said.{turned-down}
-use Rattle.known_advance.specs.declared.Advanced.{Advanced}
-use Rattle.known_advance.specs.Reports.{AdvancedAs}
+use Rattle.unchecked_calls.specs.declared.Opened.{Opened}
+use Rattle.unchecked_calls.specs.declared.Opened.the-variants as opened
+use Rattle.unchecked_calls.specs.declared.Installed.{Installed}
+use Rattle.unchecked_calls.specs.declared.Installed.the-variants as installed
+use Rattle.unchecked_calls.specs.declared.Looked.{Looked}
+use Rattle.unchecked_calls.specs.declared.Looked.the-variants as looked
+use Rattle.unchecked_calls.specs.declared.PutAnswer.{PutAnswer}
+use Rattle.unchecked_calls.specs.declared.PutAnswer.the-variants as stored
+use Rattle.unchecked_calls.specs.Answers.{opened-answer, installed-answer, looked-answer, put-answer, alone, Stepped}
+use Rattle.unchecked_calls.proofs.Turned.{no-store}
+use Rattle.unchecked_reads.specs.declared.ReadAnswer.{ReadAnswer}
+use Rattle.unchecked_reads.specs.declared.ReadAnswer.the-variants as waited
+use Rattle.unchecked_reads.specs.declared.AnswerAnswer.{AnswerAnswer}
+use Rattle.unchecked_reads.specs.declared.AnswerAnswer.the-variants as answered
+use Rattle.unchecked_reads.specs.declared.TakeAnswer.{TakeAnswer}
+use Rattle.unchecked_reads.specs.Answers.{read-answer, answered-answer, with-output, Took}
+use Rattle.unchecked_reads.proofs.Said.{turned-down}
+use Rattle.unchecked_advance.specs.declared.Advanced.{Advanced}
+use Rattle.unchecked_advance.specs.Reports.{AdvancedAs}
 use Rattle.call_answers.specs.declared.CallAnswer.{CallAnswer}
 use Rattle.call_answers.specs.declared.CallAnswer.the-variants.{No}
 use Rattle.call_answers.specs.Answers.{call-answer, take-as, advance-as}
@@ -135,12 +133,9 @@ stepped-as {r} {a} {after} b w e {g} {c} n p k q s =
 pub refused-as : (n : ℕ) (b e : List ℕ) (o : BytesResult) → o ≡ record { bytes = b; answer = refuse n } → SteppedAs (No n) b e o e
 refused-as n b e o q = subst (λ (x : BytesResult). SteppedAs (No n) b e x e) (sym q) (record { answer-is = refl; bytes-is = refl; entries-is = refl })
 
--- 20, and 8 of a store.
+-- Bytes that are no store: 20.
 pub said-20 : (b : List ℕ) (c : StoreCall) (w : ℕ) (e : List ℕ) → decode b ≡ none → SteppedAs (No 20) b e (bytes-step b (with-lent (on-store c) w e)) e
 said-20 b c w e d = refused-as 20 b e _ (turned-down b none (with-lent (on-store c) w e) d 20 (no-store _ c))
-
-pub said-8 : (b : List ℕ) (a : ReadAnchor) (k : AnchoredCall) (w : ℕ) (e : List ℕ) → IsStore b → has-duplicate (answered-slots k) ≡ true → SteppedAs (No 8) b e (bytes-step b (with-lent (on-store (at-anchor a k)) w e)) e
-said-8 b a k w e s d = refused-as 8 b e _ (turned-down b (some (store-of b)) (with-lent (on-store (at-anchor a k)) w e) s 8 (twice (store-of b .config) (store-of b .installed) _ a k d))
 
 -- A take and an advance ---------------------------------------------------------------------------------
 

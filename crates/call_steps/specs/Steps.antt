@@ -1,7 +1,6 @@
 -- A call of a call list on lent bytes: where its lists stand, and what its contract says.
 use Prim.Native.Nat.{ℕ, _/_}
 use mathlib.Core.Path.{_≡_}
-use mathlib.Core.Bool.{Bool, true}
 use mathlib.Core.List.{List}
 use lib.ListN.{length}
 use Rattle.model.specs.Store.{Call}
@@ -9,9 +8,9 @@ use Rattle.image.specs.Image.{BytesCall, BytesResult}
 use Rattle.image.specs.Output.{output-after}
 use Rattle.call_reader.specs.declared.AnchoredCall.{AnchoredCall}
 use Rattle.call_reader.specs.declared.ListedCall.{ListedCall}
-use Rattle.call_reader.specs.Calls.{anchored-within, call-within}
+use Rattle.call_list.specs.Meaning.{default-limits, meaning}
+use Rattle.call_reader.specs.Calls.{call-of, anchored-within, call-within}
 use Rattle.call_answers.specs.declared.CallAnswer.{CallAnswer}
-use Rattle.call_answers.specs.declared.CallAnswer.the-variants.{No, Open, AnchorSame, AnchorFresh, Advance, Value, Nothing, Put, Wait, Take, Answer}
 use Rattle.call_answers.specs.Answers.{call-answer}
 
 -- The lists that a call names stand within the call list.
@@ -23,6 +22,10 @@ pub record CallThere (l : List ℕ) (c : ListedCall) : Type 0 where
   pub next : ℕ
   pub within : call-within l next c
 
+-- What a call of the list asks of the store.
+abbrev pub meant : List ℕ → ListedCall → Call
+meant l c = meaning default-limits (call-of l c)
+
 -- A call with a work area of w bytes and an output.
 abbrev pub with-lent : Call → ℕ → List ℕ → BytesCall
 with-lent c w entries = record { call = c; work-bytes = w; output-entries = length entries / 52 }
@@ -32,17 +35,3 @@ pub record SteppedAs (r : CallAnswer) (after entries-after : List ℕ) (o : Byte
   pub answer-is : r ≡ call-answer (o .answer)
   pub bytes-is : after ≡ o .bytes
   pub entries-is : entries-after ≡ output-after (o .answer) entries
-
--- Whether the bytes are a store after a call: an accepted open makes them one, and every other call leaves that as it was.
-abbrev pub store-after : Bool → CallAnswer → Bool
-store-after known (No n) = known
-store-after known Open = true
-store-after known AnchorSame = known
-store-after known AnchorFresh = known
-store-after known (Advance r) = known
-store-after known (Value v) = known
-store-after known Nothing = known
-store-after known Put = known
-store-after known (Wait n) = known
-store-after known (Take n) = known
-store-after known (Answer m e w) = known

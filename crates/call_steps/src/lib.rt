@@ -9,16 +9,36 @@ ghost use Rattle.model.specs.Store as calls;
 ghost use Rattle.model.specs.Store.{on-store, at-anchor};
 ghost use Rattle.image.specs.Image.{decode, bytes-step};
 ghost use Rattle.image.specs.Lent.{IsStore};
-ghost use Rattle.reader.specs.Answers.{addresses-at, writes-at, slots-at, members-at};
+ghost use Rattle.reader.specs.Answers.{slots-at, members-at};
 ghost use Rattle.lent_lists.specs.Members.{MembersThere};
-ghost use Rattle.call_reader.specs.Calls.{anchored-of, call-of};
-ghost use Rattle.call_steps.specs.Steps.{AnchoredThere, CallThere, with-lent, SteppedAs, store-after};
+ghost use Rattle.call_list.specs.Listed as listed;
+ghost use Rattle.call_list.specs.Listed.{OpenLimits};
+ghost use Rattle.call_list.specs.Meaning.{default-limits, anchored-meaning, meaning};
+ghost use Rattle.call_reader.specs.Calls.{prepared-within, prepared-of, anchored-of};
+ghost use Rattle.call_steps.specs.Steps.{AnchoredThere, CallThere, meant, with-lent, SteppedAs};
 use call_answers::CallAnswer;
 use call_reader::AnchoredCall;
 use call_reader::ListedCall;
+use call_reader::Prepared;
+use model::delta_snapshot::DEFAULT_MAX_DEPTH;
+use model::delta_snapshot::Retention;
 use model::storage_memo::ReadAnchor;
 use model::storage_memo::U256;
 use reader::Span;
+
+// An open that names its limits.
+fn open(s: &mut [u8], capacity: u64, depth: u64, retention: Retention) -> CallAnswer
+    ensures { λ r. ⌜ ((d : OpenLimits) (w : ℕ) (e : List ℕ) → SteppedAs r (now (s .exit)) e (bytes-step (now (s .entry)) (with-lent (meaning d (listed.open-with capacity (record { max-depth = depth; retention = retention }))) w e)) e) ⌝ }
+{
+    call_answers::of_open(store::open(s, capacity, depth, retention))
+}
+
+// An open of byte 0.
+fn open_default(s: &mut [u8], capacity: u64) -> CallAnswer
+    ensures { λ r. ⌜ ((w : ℕ) (e : List ℕ) → SteppedAs r (now (s .exit)) e (bytes-step (now (s .entry)) (with-lent (meaning default-limits (listed.open-default capacity)) w e)) e) ⌝ }
+{
+    open(s, capacity, DEFAULT_MAX_DEPTH, Retention::DEFAULT)
+}
 
 // An answer.
 fn answer(
@@ -34,10 +54,7 @@ fn answer(
     lent_lists::expand_members(list, span, members);
     let n = span.count * 85;
     let named = &members[0..n];
-    if awaiting::has_duplicate(named, 85) {
-        return CallAnswer::No(8);
-    }
-    call_answers::of_answer(known_reads::answer(s, anchor, named))
+    call_answers::of_answer(unchecked_reads::answer(s, anchor, named))
 }
 
 // The answer of a failed round.
@@ -47,10 +64,7 @@ fn answer_failed(list: &[u8], span: Span, s: &mut [u8], anchor: ReadAnchor) -> C
 {
     let start = span.start;
     let slots = &list[start..start + span.count * 52];
-    if awaiting::has_duplicate(slots, 52) {
-        return CallAnswer::No(8);
-    }
-    call_answers::of_answer(known_reads::answer_failed(s, anchor, slots))
+    call_answers::of_answer(unchecked_reads::answer_failed(s, anchor, slots))
 }
 
 // A call at an anchor.
@@ -63,14 +77,19 @@ fn anchored(
     members: &mut [u8],
 ) -> CallAnswer
     requires { ⌜ IsStore (now s) × AnchoredThere (now list) call × (length (now list) / 53 * 85 ≤ length (now members)) ⌝ }
-    ensures { λ r. ⌜ ((w : ℕ) → SteppedAs r (now (s .exit)) (now (entries .exit)) (bytes-step (now (s .entry)) (with-lent (on-store (at-anchor anchor (anchored-of (now (list .entry)) call))) w (now (entries .entry)))) (now (entries .entry))) ⌝ }
+    ensures { λ r. ⌜ ((w : ℕ) → SteppedAs r (now (s .exit)) (now (entries .exit)) (bytes-step (now (s .entry)) (with-lent (on-store (at-anchor anchor (anchored-meaning (anchored-of (now (list .entry)) call)))) w (now (entries .entry)))) (now (entries .entry))) ⌝ }
 {
     match call {
-        AnchoredCall::Look(slot) => call_answers::of_look(known::look(s, anchor, slot)),
-        AnchoredCall::Get(slot) => call_answers::of_look(known::get(s, anchor, slot)),
-        AnchoredCall::Put(slot, value) => call_answers::of_put(known::put(s, anchor, slot, value)),
-        AnchoredCall::Read(slot) => call_answers::of_read(known_reads::read(s, anchor, slot)),
-        AnchoredCall::Take => call_answers::of_take(known_reads::take(s, anchor, entries)),
+        AnchoredCall::Look(slot) => call_answers::of_look(unchecked_calls::look(s, anchor, slot)),
+        AnchoredCall::Get(slot) => call_answers::of_look(unchecked_calls::get(s, anchor, slot)),
+        AnchoredCall::Put(slot, value) => call_answers::of_put(unchecked_calls::put(
+            s,
+            anchor,
+            slot,
+            value,
+        )),
+        AnchoredCall::Read(slot) => call_answers::of_read(unchecked_reads::read(s, anchor, slot)),
+        AnchoredCall::Take => call_answers::of_take(unchecked_reads::take(s, anchor, entries)),
         AnchoredCall::Answer(span) => answer(list, span, s, anchor, members),
         AnchoredCall::AnswerFailed(span) => answer_failed(list, span, s, anchor),
     }
@@ -81,23 +100,23 @@ fn advance(
     list: &[u8],
     child: ReadAnchor,
     parent_hash: U256,
-    skip: u64,
-    addresses: Span,
-    writes: Span,
+    prepared: Prepared,
     s: &mut [u8],
     work: &mut [u8],
     entries: &mut [u8],
 ) -> CallAnswer
-    requires { ⌜ IsStore (now s) × (addresses .start + addresses .count * 20 ≤ length (now list)) × (writes .start + writes .count * 84 ≤ length (now list)) ⌝ }
-    ensures { λ r. ⌜ SteppedAs r (now (s .exit)) (now (entries .exit)) (bytes-step (now (s .entry)) (with-lent (on-store (calls.advance child «parent_hash» skip (addresses-at (now (list .entry)) addresses) (writes-at (now (list .entry)) writes))) (length (now (work .entry))) (now (entries .entry)))) (now (entries .entry)) ⌝ }
+    requires { ⌜ IsStore (now s) × prepared-within (now list) prepared ⌝ }
+    ensures { λ r. ⌜ SteppedAs r (now (s .exit)) (now (entries .exit)) (bytes-step (now (s .entry)) (with-lent (meaning default-limits (listed.advance child «parent_hash» (prepared-of (now (list .entry)) prepared))) (length (now (work .entry))) (now (entries .entry)))) (now (entries .entry)) ⌝ }
 {
+    let addresses = prepared.relevance;
+    let writes = prepared.writes;
     let first_address = addresses.start;
     let first_write = writes.start;
-    call_answers::of_advance(known_advance::advance(
+    call_answers::of_advance(unchecked_advance::advance(
         s,
         child,
         parent_hash,
-        skip,
+        prepared.skip,
         &list[first_address..first_address + addresses.count * 20],
         &list[first_write..first_write + writes.count * 84],
         work,
@@ -115,23 +134,20 @@ fn on_store(
     members: &mut [u8],
 ) -> CallAnswer
     requires { ⌜ IsStore (now s) × CallThere (now list) call × (length (now list) / 53 * 85 ≤ length (now members)) ⌝ }
-    ensures { λ r. ⌜ SteppedAs r (now (s .exit)) (now (entries .exit)) (bytes-step (now (s .entry)) (with-lent (call-of (now (list .entry)) call) (length (now (work .entry))) (now (entries .entry)))) (now (entries .entry)) ⌝ }
+    ensures { λ r. ⌜ SteppedAs r (now (s .exit)) (now (entries .exit)) (bytes-step (now (s .entry)) (with-lent (meant (now (list .entry)) call) (length (now (work .entry))) (now (entries .entry)))) (now (entries .entry)) ⌝ }
 {
     match call {
-        ListedCall::Open(capacity, depth, retention) => call_answers::of_open(store::open(
+        ListedCall::OpenDefault(capacity) => open_default(s, capacity),
+        ListedCall::OpenWith(capacity, depth, retention) => open(s, capacity, depth, retention),
+        ListedCall::Install(anchor) => call_answers::of_install(unchecked_calls::install(
             s,
-            capacity,
-            depth,
-            retention,
+            anchor,
         )),
-        ListedCall::Install(anchor) => call_answers::of_install(known::install(s, anchor)),
-        ListedCall::Advance(child, parent_hash, skip, addresses, writes) => advance(
+        ListedCall::Advance(child, parent_hash, prepared) => advance(
             list,
             child,
             parent_hash,
-            skip,
-            addresses,
-            writes,
+            prepared,
             s,
             work,
             entries,
@@ -143,22 +159,18 @@ fn on_store(
 // A call on bytes that are no store.
 fn on_other(call: ListedCall, s: &mut [u8]) -> CallAnswer
     requires { ⌜ decode (now s) ≡ none ⌝ }
-    ensures { λ r. ⌜ ((l : List ℕ) (w : ℕ) (e : List ℕ) → SteppedAs r (now (s .exit)) e (bytes-step (now (s .entry)) (with-lent (call-of l call) w e)) e) ⌝ }
+    ensures { λ r. ⌜ ((l : List ℕ) (w : ℕ) (e : List ℕ) → SteppedAs r (now (s .exit)) e (bytes-step (now (s .entry)) (with-lent (meant l call) w e)) e) ⌝ }
 {
     match call {
-        ListedCall::Open(capacity, depth, retention) => call_answers::of_open(store::open(
-            s,
-            capacity,
-            depth,
-            retention,
-        )),
+        ListedCall::OpenDefault(capacity) => open_default(s, capacity),
+        ListedCall::OpenWith(capacity, depth, retention) => open(s, capacity, depth, retention),
         ListedCall::Install(_) => CallAnswer::No(20),
-        ListedCall::Advance(_, _, _, _, _) => CallAnswer::No(20),
+        ListedCall::Advance(_, _, _) => CallAnswer::No(20),
         ListedCall::Anchored(_, _) => CallAnswer::No(20),
     }
 }
 
-// A call of a list on the store's bytes; `known` says whether they are a store.
+// A call of a list on the store's bytes; `unchecked_calls` says whether they are a store.
 pub fn step(
     list: &[u8],
     call: ListedCall,
@@ -169,21 +181,11 @@ pub fn step(
     members: &mut [u8],
 ) -> CallAnswer
     requires { ⌜ (known ≡ is-some (decode (now s))) × CallThere (now list) call × (length (now list) / 53 * 85 ≤ length (now members)) ⌝ }
-    ensures { λ r. ⌜ SteppedAs r (now (s .exit)) (now (entries .exit)) (bytes-step (now (s .entry)) (with-lent (call-of (now (list .entry)) call) (length (now (work .entry))) (now (entries .entry)))) (now (entries .entry)) ⌝ }
+    ensures { λ r. ⌜ SteppedAs r (now (s .exit)) (now (entries .exit)) (bytes-step (now (s .entry)) (with-lent (meant (now (list .entry)) call) (length (now (work .entry))) (now (entries .entry)))) (now (entries .entry)) ⌝ }
 {
     if known {
         on_store(list, call, s, work, entries, members)
     } else {
         on_other(call, s)
-    }
-}
-
-// Whether the bytes are a store after a call.
-pub fn known_after(known: bool, a: CallAnswer) -> bool
-    ensures { λ r. ⌜ r ≡ store-after known a ⌝ }
-{
-    match a {
-        CallAnswer::Open => true,
-        _ => known,
     }
 }

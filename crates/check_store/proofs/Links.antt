@@ -8,6 +8,7 @@ use lib.Dec.{eqb, leb, ltb}
 use lib.ListN.{length, take, drop, getD, length-map}
 use lib.Seq.{getD-take, getD-at, getD-drop, length-take-le}
 use borrow.Author.Tests.{leb-true, le-leb, lt-leb, eq-eqb, ne-eqb}
+use Rattle.layout.specs.Layout.{awaiting-count-index, awaiting-offset, awaiting-table, capacity-index, config-width, depth-index, ends-limit, ends-offset, generation-width, header-width, idle-index, installed-index, installed-offset, magic, max-depth-index, number-index, record-size, record-width, records-count-index, records-offset, retention-index, table-width}
 use Rattle.model.specs.declared.delta_snapshot.Retention.{Retention}
 use Rattle.model.specs.declared.delta_snapshot.Retention.the-variants.{Unbounded, IdleBlocks}
 use Rattle.model.specs.Numbers.{Bytes}
@@ -15,7 +16,7 @@ use Rattle.model.specs.Layers.{Record, Layer, record-count, is-some}
 use Rattle.model.proofs.SlotLaws.{and-left, and-right, and-true, and-false}
 use Rattle.image.specs.WellFormed.{rising}
 use Rattle.model.specs.Refusals.{store-words}
-use Rattle.image.specs.Image.{words-of, magic, flat-records, layer-ends, read-record, read-retention, entries, Cut, cut, decode}
+use Rattle.image.specs.Image.{words-of, flat-records, layer-ends, read-record, read-retention, entries, Cut, cut, decode}
 use Rattle.image.specs.Area.{records-of}
 use Rattle.image.proofs.Words.{length-words-of}
 use Rattle.image.proofs.Entries.{length-ends}
@@ -32,16 +33,16 @@ use Rattle.checking.proofs.Decode.{four-parts, decode-law}
 
 -- The counts are within their limits.
 pub record Counts (h : List ℕ) : Type 0 where
-  pub depth : getD h 12 0 ≤ getD h 2 0
-  pub records : getD h 13 0 ≤ getD h 1 0
-  pub awaiting : getD h 14 0 ≤ 64
+  pub depth : getD h depth-index 0 ≤ getD h max-depth-index 0
+  pub records : getD h records-count-index 0 ≤ getD h capacity-index 0
+  pub awaiting : getD h awaiting-count-index 0 ≤ 64
 
 pub counts-say : (h : List ℕ) → counts-right h ≡ true → Counts h
 unfolding counts-right
 counts-say h e =
-    let x : Bool = leb (getD h 12 0) (getD h 2 0) in
-    let y : Bool = leb (getD h 13 0) (getD h 1 0) in
-    let z : Bool = leb (getD h 14 0) 64 in
+    let x : Bool = leb (getD h depth-index 0) (getD h max-depth-index 0) in
+    let y : Bool = leb (getD h records-count-index 0) (getD h capacity-index 0) in
+    let z : Bool = leb (getD h awaiting-count-index 0) 64 in
     record { depth = leb-true _ _ (and-left x _ e); records = leb-true _ _ (and-left y z (and-right x _ e)); awaiting = leb-true _ _ (and-right y z (and-right x _ e)) }
 
 pub ends-say : (d n : ℕ) (l : List ℕ) → ends-right d n l ≡ true → ends-rise n 0 (take (suc d) l) ≡ true
@@ -49,9 +50,9 @@ unfolding ends-right
 ends-say d n l e = and-left (ends-rise n 0 (take (suc d) l)) _ e
 
 -- The five checks, of the numbers that were read.
-pub parts-five : (h E A : List ℕ) (R : ℕ → List ℕ) (d n k m number : ℕ) (a b c x y : Bool) → d ≡ getD h 12 0 → n ≡ getD h 13 0 → k ≡ getD h 14 0 → m ≡ getD h 1 0 → number ≡ getD h 6 0 →
+pub parts-five : (h E A : List ℕ) (R : ℕ → List ℕ) (d n k m number : ℕ) (a b c x y : Bool) → d ≡ getD h depth-index 0 → n ≡ getD h records-count-index 0 → k ≡ getD h awaiting-count-index 0 → m ≡ getD h capacity-index 0 → number ≡ getD h number-index 0 →
     a ≡ anchor-right h → b ≡ counts-right h → c ≡ ends-right d n E → x ≡ reads-right k h A → y ≡ records-right number d n E (R m) →
-    (a && (b && (c && (x && y)))) ≡ parts-right h E A (R (getD h 1 0))
+    (a && (b && (c && (x && y)))) ≡ parts-right h E A (R (getD h capacity-index 0))
 unfolding parts-right
 parts-five h E A R d n k m number a b c x y pd pn pk pm pu pa pb pc px py = rw (pa, pb, pc, px, py, pd, pn, pk, pm, pu)
 
@@ -79,79 +80,79 @@ cross-law R number d n E es h j e r =
 
 -- What the checks of the parts say of the records.
 record Records (s : List ℕ) : Type 0 where
-  counts : Counts (words-of 24 s)
-  ends : ends-rise (getD (words-of 24 s) 13 0) 0 (take (suc (getD (words-of 24 s) 12 0)) (words-of 256 (drop 192 s))) ≡ true
-  rise : layers-rise 0 (take (suc (getD (words-of 24 s) 12 0)) (words-of 256 (drop 192 s))) (entries 13 (getD (words-of 24 s) 13 0) (words-of (13 * capacity-of s) (drop 6848 s))) ≡ true
+  counts : Counts (words-of header-width s)
+  ends : ends-rise (getD (words-of header-width s) records-count-index 0) 0 (take (suc (getD (words-of header-width s) depth-index 0)) (words-of ends-limit (drop ends-offset s))) ≡ true
+  rise : layers-rise 0 (take (suc (getD (words-of header-width s) depth-index 0)) (words-of ends-limit (drop ends-offset s))) (entries record-width (getD (words-of header-width s) records-count-index 0) (words-of (record-width * capacity-of s) (drop records-offset s))) ≡ true
 
 records-say : (s : List ℕ) → parts-in s ≡ true → Records s
 unfolding parts-right records-right
 records-say s e =
-    let h : List ℕ = words-of 24 s in
-    let E : List ℕ = words-of 256 (drop 192 s) in
+    let h : List ℕ = words-of header-width s in
+    let E : List ℕ = words-of ends-limit (drop ends-offset s) in
     let e₁ = and-right (anchor-right h) _ e in
     let e₂ = and-right (counts-right h) _ e₁ in
-    let e₃ = and-right (ends-right (getD h 12 0) (getD h 13 0) E) _ e₂ in
-    let e₄ = and-right (reads-right (getD h 14 0) h (words-of 576 (drop 2240 s))) _ e₃ in
+    let e₃ = and-right (ends-right (getD h depth-index 0) (getD h records-count-index 0) E) _ e₂ in
+    let e₄ = and-right (reads-right (getD h awaiting-count-index 0) h (words-of awaiting-table (drop awaiting-offset s))) _ e₃ in
     record {
       counts = counts-say h (and-left (counts-right h) _ e₁);
-      ends = ends-say (getD h 12 0) (getD h 13 0) E (and-left (ends-right (getD h 12 0) (getD h 13 0) E) _ e₂);
-      rise = and-right (area-right (getD h 6 0) (getD h 13 0) (words-of (13 * capacity-of s) (drop 6848 s))) _ e₄;
+      ends = ends-say (getD h depth-index 0) (getD h records-count-index 0) E (and-left (ends-right (getD h depth-index 0) (getD h records-count-index 0) E) _ e₂);
+      rise = and-right (area-right (getD h number-index 0) (getD h records-count-index 0) (words-of (record-width * capacity-of s) (drop records-offset s))) _ e₄;
     }
 
-pub parts-counts : (s : List ℕ) → parts-in s ≡ true → Counts (words-of 24 s)
+pub parts-counts : (s : List ℕ) → parts-in s ≡ true → Counts (words-of header-width s)
 parts-counts s e = records-say s e .counts
 
 -- The rules, of the numbers that were read.
-pub rules-law : (s : List ℕ) (d n top f idle number : ℕ) → Sized s → parts-in s ≡ true → d ≡ getD (words-of 24 s) 12 0 → n ≡ getD (words-of 24 s) 13 0 → top ≡ getD (words-of 256 (drop 192 s)) d 0 → f ≡ getD (words-of 24 s) 3 0 → idle ≡ getD (words-of 24 s) 4 0 → number ≡ getD (words-of 24 s) 6 0 →
-    cross-rules (cond (eqb f 0) Unbounded (IdleBlocks idle)) number top (records-of n (take (length s - 6848) (drop 6848 s))) ≡ rules-in s
+pub rules-law : (s : List ℕ) (d n top f idle number : ℕ) → Sized s → parts-in s ≡ true → d ≡ getD (words-of header-width s) depth-index 0 → n ≡ getD (words-of header-width s) records-count-index 0 → top ≡ getD (words-of ends-limit (drop ends-offset s)) d 0 → f ≡ getD (words-of header-width s) retention-index 0 → idle ≡ getD (words-of header-width s) idle-index 0 → number ≡ getD (words-of header-width s) number-index 0 →
+    cross-rules (cond (eqb f 0) Unbounded (IdleBlocks idle)) number top (records-of n (take (length s - records-offset) (drop records-offset s))) ≡ rules-in s
 unfolding rules-right records-of
 rules-law s d n top f idle number z e pd pn pt pf pi pu =
-    let h : List ℕ = words-of 24 s in
-    let E : List ℕ = words-of 256 (drop 192 s) in
-    let area : List ℕ = drop 6848 s in
+    let h : List ℕ = words-of header-width s in
+    let E : List ℕ = words-of ends-limit (drop ends-offset s) in
+    let area : List ℕ = drop records-offset s in
     let k : Records s = records-say s e in
     let c : Counts h = k .counts in
     let R : Retention = read-retention (drop 3 h) in
     let kept : cond (eqb f 0) Unbounded (IdleBlocks idle) ≡ R = ap₂ (λ (x y : ℕ). cond (eqb x 0) Unbounded (IdleBlocks y)) (pf ∙ sym (getD-drop 3 h 0 0)) (pi ∙ sym (getD-drop 3 h 1 0)) in
-    let es : entries 13 n (words-of (13 * n) (take (length s - 6848) (drop 6848 s))) ≡ entries 13 (getD h 13 0) (words-of (13 * capacity-of s) area) =
-    ap (λ (l : List ℕ). entries 13 n (words-of (13 * n) l)) (rest 6848 s) ∙ rows-area n n area (omega arith) ∙ ap (λ (x : ℕ). rows 13 x area) pn ∙ sym (rows-area (getD h 13 0) (capacity-of s) area (omega arith)) in
+    let es : entries record-width n (words-of (record-width * n) (take (length s - records-offset) (drop records-offset s))) ≡ entries record-width (getD h records-count-index 0) (words-of (record-width * capacity-of s) area) =
+    ap (λ (l : List ℕ). entries record-width n (words-of (record-width * n) l)) (rest records-offset s) ∙ rows-area n n area (omega arith) ∙ ap (λ (x : ℕ). rows record-width x area) pn ∙ sym (rows-area (getD h records-count-index 0) (capacity-of s) area (omega arith)) in
     ap₂ (λ (x : Retention) (y : List (List ℕ)). cross-rules x number top (map read-record y)) kept es
-    ∙ ap₂ (λ (x y : ℕ). cross-rules R x y (map read-record (entries 13 (getD h 13 0) (words-of (13 * capacity-of s) area)))) pu (pt ∙ ap (λ (x : ℕ). getD E x 0) pd)
-    ∙ cross-law R (getD h 6 0) (getD h 12 0) (getD h 13 0) E (entries 13 (getD h 13 0) (words-of (13 * capacity-of s) area)) (length-entries 13 (getD h 13 0) _) (omega (arith, length-words-of 256 (drop 192 s))) (k .ends) (k .rise)
+    ∙ ap₂ (λ (x y : ℕ). cross-rules R x y (map read-record (entries record-width (getD h records-count-index 0) (words-of (record-width * capacity-of s) area)))) pu (pt ∙ ap (λ (x : ℕ). getD E x 0) pd)
+    ∙ cross-law R (getD h number-index 0) (getD h depth-index 0) (getD h records-count-index 0) E (entries record-width (getD h records-count-index 0) (words-of (record-width * capacity-of s) area)) (length-entries record-width (getD h records-count-index 0) _) (omega (arith, length-words-of ends-limit (drop ends-offset s))) (k .ends) (k .rise)
 
 -- The store ---------------------------------------------------------------------------------------------
 
 -- What the first check says.
-pub config-sized : (s : List ℕ) → config-right (words-of 24 s) ≡ true → (capacity-of s ≤ 4096) × (getD (words-of 24 s) 2 0 ≤ 255)
+pub config-sized : (s : List ℕ) → config-right (words-of header-width s) ≡ true → (capacity-of s ≤ 4096) × (getD (words-of header-width s) max-depth-index 0 ≤ 255)
 unfolding config-right
 config-sized s e =
-    let h : List ℕ = words-of 24 s in
+    let h : List ℕ = words-of header-width s in
     let e₁ = and-right (eqb (getD h 0 0) magic) _ e in
-    let e₂ = and-right (ltb 0 (getD h 1 0)) _ e₁ in
-    let e₃ = and-right (leb (getD h 1 0) 4096) _ e₂ in
-    let e₄ = and-right (ltb 0 (getD h 2 0)) _ e₃ in
-    (leb-true _ _ (and-left (leb (getD h 1 0) 4096) _ e₂), leb-true _ _ (and-left (leb (getD h 2 0) 255) _ e₄))
+    let e₂ = and-right (ltb 0 (getD h capacity-index 0)) _ e₁ in
+    let e₃ = and-right (leb (getD h capacity-index 0) 4096) _ e₂ in
+    let e₄ = and-right (ltb 0 (getD h max-depth-index 0)) _ e₃ in
+    (leb-true _ _ (and-left (leb (getD h capacity-index 0) 4096) _ e₂), leb-true _ _ (and-left (leb (getD h max-depth-index 0) 255) _ e₄))
 
 -- Bytes that are too short, or whose first words are not right, are no store.
-pub is-cut : (s : List ℕ) → Bytes s → length s < 6848 + 104 * capacity-of s → false ≡ is-some (decode s)
+pub is-cut : (s : List ℕ) → Bytes s → length s < records-offset + record-size * capacity-of s → false ≡ is-some (decode s)
 is-cut s b h = sym (decode-law s b ∙ rw (lt-leb (8 * store-words (capacity-of s)) (length s) (omega arith)))
 
-pub is-odd : (s : List ℕ) → Bytes s → config-right (words-of 24 s) ≡ false → false ≡ is-some (decode s)
+pub is-odd : (s : List ℕ) → Bytes s → config-right (words-of header-width s) ≡ false → false ≡ is-some (decode s)
 unfolding bytes-right store-right
 is-odd s b h = sym (decode-law s b ∙ rw h (and-false (leb (8 * store-words (capacity-of s)) (length s))))
 
 -- Of others, either all is 0 from word 5 on, or the generation decides.
-module _ (s : List ℕ) (b : Bytes s) (c : config-right (words-of 24 s) ≡ true) (l : 6848 + 104 * capacity-of s ≤ length s) where
-  pub is-bare : (x : ℕ) → x ≡ getD (words-of 24 s) 5 0 → x ≡ 0 → all-zero (drop 40 (take (6848 + 104 * capacity-of s) s)) ≡ is-some (decode s)
+module _ (s : List ℕ) (b : Bytes s) (c : config-right (words-of header-width s) ≡ true) (l : records-offset + record-size * capacity-of s ≤ length s) where
+  pub is-bare : (x : ℕ) → x ≡ getD (words-of header-width s) installed-index 0 → x ≡ 0 → all-zero (drop installed-offset (take (records-offset + record-size * capacity-of s) s)) ≡ is-some (decode s)
   unfolding bytes-right store-right
   is-bare x p h =
-      let z : getD (words-of 24 s) 5 0 ≡ 0 = sym p ∙ h in
-      let e : 5 + (851 + 13 * capacity-of s) ≡ store-words (capacity-of s) = omega arith in
-      zero-tail 5 (851 + 13 * capacity-of s) 0 40 (6848 + 104 * capacity-of s) s refl (omega arith) l
+      let z : getD (words-of header-width s) installed-index 0 ≡ 0 = sym p ∙ h in
+      let e : config-width + (generation-width + table-width + record-width * capacity-of s) ≡ store-words (capacity-of s) = omega arith in
+      zero-tail config-width (generation-width + table-width + record-width * capacity-of s) 0 installed-offset (records-offset + record-size * capacity-of s) s refl (omega arith) l
       ∙ ap (λ (n : ℕ). all-zero (drop 5 (words-of n s))) e
       ∙ ap (λ (ws : List ℕ). all-zero (drop 5 ws)) (four-parts (capacity-of s) s)
-      ∙ sym (decode-law s b ∙ rw (le-leb (8 * store-words (capacity-of s)) (length s) (omega arith), c, eq-eqb (getD (words-of 24 s) 5 0) 0 z))
+      ∙ sym (decode-law s b ∙ rw (le-leb (8 * store-words (capacity-of s)) (length s) (omega arith), c, eq-eqb (getD (words-of header-width s) installed-index 0) 0 z))
 
-  pub is-full : (x : ℕ) → x ≡ getD (words-of 24 s) 5 0 → (x ≡ 0 → ⊥) → (parts-in s && rules-in s) ≡ is-some (decode s)
+  pub is-full : (x : ℕ) → x ≡ getD (words-of header-width s) installed-index 0 → (x ≡ 0 → ⊥) → (parts-in s && rules-in s) ≡ is-some (decode s)
   unfolding bytes-right store-right
-  is-full x p h = sym (decode-law s b ∙ rw (le-leb (8 * store-words (capacity-of s)) (length s) (omega arith), c, ne-eqb (getD (words-of 24 s) 5 0) 0 (λ z. h (p ∙ z))))
+  is-full x p h = sym (decode-law s b ∙ rw (le-leb (8 * store-words (capacity-of s)) (length s) (omega arith), c, ne-eqb (getD (words-of header-width s) installed-index 0) 0 (λ z. h (p ∙ z))))

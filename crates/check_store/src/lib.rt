@@ -28,16 +28,25 @@ fn parts_right(s: &[u8]) -> bool
     if !checking::counts_right(s) {
         return false;
     }
-    let depth = checking::word(s, 0, 12) as usize;
-    let n = checking::word(s, 0, 13);
+    let depth = checking::word(s, 0, layout::DEPTH_INDEX) as usize;
+    let n = checking::word(s, 0, layout::RECORDS_COUNT_INDEX);
     if !checking::ends_right(s, depth, n) {
         return false;
     }
-    if !checking::reads_right(s, checking::word(s, 0, 14) as usize) {
+    if !checking::reads_right(
+        s,
+        checking::word(s, 0, layout::AWAITING_COUNT_INDEX) as usize,
+    ) {
         return false;
     }
-    let capacity = checking::word(s, 0, 1) as usize;
-    checking::records_right(s, capacity, depth, n as usize, checking::word(s, 0, 6))
+    let capacity = checking::word(s, 0, layout::CAPACITY_INDEX) as usize;
+    checking::records_right(
+        s,
+        capacity,
+        depth,
+        n as usize,
+        checking::word(s, 0, layout::NUMBER_INDEX),
+    )
 }
 
 // The rules across layers. The top begins at the end of the base's last layer.
@@ -45,16 +54,19 @@ fn rules_right(s: &[u8]) -> bool
     requires { ⌜ Sized (now s) × (parts-in (now s) ≡ true) ⌝ }
     ensures { λ r. ⌜ r ≡ rules-in (now (s .entry)) ⌝ }
 {
-    let depth = checking::word(s, 0, 12) as usize;
-    let n = checking::word(s, 0, 13) as usize;
-    let top = checking::word(s, checking::ENDS, depth) as usize;
-    let kept = retention(checking::word(s, 0, 3), checking::word(s, 0, 4));
+    let depth = checking::word(s, 0, layout::DEPTH_INDEX) as usize;
+    let n = checking::word(s, 0, layout::RECORDS_COUNT_INDEX) as usize;
+    let top = checking::word(s, layout::ENDS_OFFSET, depth) as usize;
+    let kept = retention(
+        checking::word(s, 0, layout::RETENTION_INDEX),
+        checking::word(s, 0, layout::IDLE_INDEX),
+    );
     rules::cross_rules(
-        &s[checking::RECORDS..],
+        &s[layout::RECORDS_OFFSET..],
         n,
         top,
         kept,
-        checking::word(s, 0, 6),
+        checking::word(s, 0, layout::NUMBER_INDEX),
     )
 }
 
@@ -73,18 +85,19 @@ fn installed_right(s: &[u8]) -> bool
 pub fn is_store(s: &[u8]) -> bool
     ensures { λ r. ⌜ r ≡ is-some (decode (now (s .entry))) ⌝ }
 {
-    if s.len() < checking::RECORDS {
+    if s.len() < layout::RECORDS_OFFSET {
         return false;
     }
     if !checking::config_right(s) {
         return false;
     }
-    let size = checking::RECORDS + checking::RECORD_BYTES * checking::word(s, 0, 1) as usize;
+    let size = layout::RECORDS_OFFSET
+        + layout::RECORD_SIZE * checking::word(s, 0, layout::CAPACITY_INDEX) as usize;
     if s.len() < size {
         return false;
     }
-    if checking::word(s, 0, 5) == 0 {
-        return checking::zero(s, 40, size);
+    if checking::word(s, 0, layout::INSTALLED_INDEX) == 0 {
+        return checking::zero(s, layout::INSTALLED_OFFSET, size);
     }
     installed_right(s)
 }

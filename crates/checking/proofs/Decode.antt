@@ -9,6 +9,7 @@ use lib.Dec.{leb}
 use lib.ListN.{length, take, drop, length-drop}
 use lib.Seq.{drop-drop, getD-drop}
 use borrow.Author.Tests.{leb-true}
+use Rattle.layout.specs.Layout.{awaiting-offset, awaiting-table, awaiting-table-size, ends-limit, ends-offset, ends-size, header-width, record-width, records-offset}
 use Rattle.model.specs.Numbers.{num, Bytes}
 use Rattle.model.specs.Slots.{words-eqb}
 use Rattle.model.specs.Layers.{is-some}
@@ -23,16 +24,16 @@ use Rattle.checking.proofs.Rows.{word-at, words-add, fit-words}
 use Rattle.checking.proofs.Law.{checks-law}
 
 -- The words of a store of capacity c, in four parts.
-pub four-parts : (c : ℕ) (s : List ℕ) → words-of (store-words c) s ≡ words-of 24 s ++ (words-of 256 (drop 192 s) ++ (words-of 576 (drop 2240 s) ++ words-of (13 * c) (drop 6848 s)))
+pub four-parts : (c : ℕ) (s : List ℕ) → words-of (store-words c) s ≡ words-of header-width s ++ (words-of ends-limit (drop ends-offset s) ++ (words-of awaiting-table (drop awaiting-offset s) ++ words-of (record-width * c) (drop records-offset s)))
 four-parts c s =
-    let e : store-words c ≡ 24 + (256 + (576 + 13 * c)) = omega arith in
+    let e : store-words c ≡ header-width + (ends-limit + (awaiting-table + record-width * c)) = omega arith in
     ap (λ (n : ℕ). words-of n s) e
-    ∙ words-add 24 (256 + (576 + 13 * c)) s
-    ∙ ap (λ (l : List ℕ). words-of 24 s ++ l)
-    (words-add 256 (576 + 13 * c) (drop 192 s)
-    ∙ ap (λ (l : List ℕ). words-of 256 (drop 192 s) ++ words-of (576 + 13 * c) l) (drop-drop 2048 192 s)
-    ∙ ap (λ (l : List ℕ). words-of 256 (drop 192 s) ++ l)
-    (words-add 576 (13 * c) (drop 2240 s) ∙ ap (λ (l : List ℕ). words-of 576 (drop 2240 s) ++ words-of (13 * c) l) (drop-drop 4608 2240 s)))
+    ∙ words-add header-width (ends-limit + (awaiting-table + record-width * c)) s
+    ∙ ap (λ (l : List ℕ). words-of header-width s ++ l)
+    (words-add ends-limit (awaiting-table + record-width * c) (drop ends-offset s)
+    ∙ ap (λ (l : List ℕ). words-of ends-limit (drop ends-offset s) ++ words-of (awaiting-table + record-width * c) l) (drop-drop ends-size ends-offset s)
+    ∙ ap (λ (l : List ℕ). words-of ends-limit (drop ends-offset s) ++ l)
+    (words-add awaiting-table (record-width * c) (drop awaiting-offset s) ∙ ap (λ (l : List ℕ). words-of awaiting-table (drop awaiting-offset s) ++ words-of (record-width * c) l) (drop-drop awaiting-table-size awaiting-offset s)))
 
 bytes-from : (k : ℕ) (s : List ℕ) → Bytes s → Bytes (drop k s)
 bytes-from k s b = λ j. rw getD-drop (b (k + j))
@@ -44,14 +45,14 @@ parts-are : (s : List ℕ) → Bytes s → 8 * store-words (capacity-of s) ≤ l
 unfolding bytes-right
 parts-are s b h =
     let c : ℕ = capacity-of s in
-    let d : length (drop 2240 s) ≡ length s - 2240 = length-drop 2240 s in
-    let e : length (drop 6848 s) ≡ length s - 6848 = length-drop 6848 s in
-    let H : List ℕ = words-of 24 s in
-    let E : List ℕ = words-of 256 (drop 192 s) in
-    let A : List ℕ = words-of 576 (drop 2240 s) in
-    let R : List ℕ = words-of (13 * c) (drop 6848 s) in
-    checks-law H E A R (length-words-of 24 s) (length-words-of 256 (drop 192 s)) (length-words-of 576 (drop 2240 s)) (length-words-of (13 * c) (drop 6848 s))
-    (fit-words 24 s b (omega arith)) (fit-words 576 (drop 2240 s) (bytes-from 2240 s b) (omega arith)) (fit-words (13 * c) (drop 6848 s) (bytes-from 6848 s b) (omega arith))
+    let d : length (drop awaiting-offset s) ≡ length s - awaiting-offset = length-drop awaiting-offset s in
+    let e : length (drop records-offset s) ≡ length s - records-offset = length-drop records-offset s in
+    let H : List ℕ = words-of header-width s in
+    let E : List ℕ = words-of ends-limit (drop ends-offset s) in
+    let A : List ℕ = words-of awaiting-table (drop awaiting-offset s) in
+    let R : List ℕ = words-of (record-width * c) (drop records-offset s) in
+    checks-law H E A R (length-words-of header-width s) (length-words-of ends-limit (drop ends-offset s)) (length-words-of awaiting-table (drop awaiting-offset s)) (length-words-of (record-width * c) (drop records-offset s))
+    (fit-words header-width s b (omega arith)) (fit-words awaiting-table (drop awaiting-offset s) (bytes-from awaiting-offset s b) (omega arith)) (fit-words (record-width * c) (drop records-offset s) (bytes-from records-offset s b) (omega arith))
     ∙ ap (λ (ws : List ℕ). well-formed (read-store ws) && words-eqb ws (image-words (read-store ws))) (sym (four-parts c s))
 
 -- Bytes are a store exactly when they are as long as one of their capacity, and the checks are right.
@@ -59,7 +60,7 @@ pub decode-law : (s : List ℕ) → Bytes s → is-some (decode s) ≡ (leb (8 *
 unfolding decode
 decode-law s b =
     let c : ℕ = capacity-of s in
-    let e : num (take 8 (drop 8 s)) ≡ c = sym (word-at 24 1 s (omega arith)) in
+    let e : num (take 8 (drop 8 s)) ≡ c = sym (word-at header-width 1 s (omega arith)) in
     let n : ℕ = store-words c in
     let st : Store = read-store (words-of n s) in
     ap (λ (x : ℕ). let ws : List ℕ = words-of (store-words x) s in is-some {A = Store} (cond (leb (8 * store-words x) (length s) && (well-formed (read-store ws) && words-eqb ws (image-words (read-store ws)))) (some (read-store ws)) none)) e

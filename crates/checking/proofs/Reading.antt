@@ -9,6 +9,7 @@ use lib.Dec.{eqb, leb, ltb}
 use lib.ListN.{length, take, drop, getD, length-drop}
 use lib.Seq.{length-take-le, getD-drop}
 use borrow.Author.Tests.{lt-ltb, le-leb}
+use Rattle.layout.specs.Layout.{awaiting-width, capacity-index, has-index, idle-index, installed-index, last-use-index, max-depth-index, number-index, record-width, retention-index, second-use-index, second-waiters-index, slot-width, taken-index, value-index, waiters-index}
 use Rattle.model.specs.declared.delta_snapshot.Slot.{Slot}
 use Rattle.model.specs.Slots.{Value, LastUse, slot-ltb, words-eqb}
 use Rattle.model.specs.Layers.{Content, use-only, valued, Record, Layer, held-value, freshest-use, is-some}
@@ -20,7 +21,7 @@ use Rattle.image.proofs.Words.{Fit}
 use Rattle.image.proofs.Entries.{joined}
 use Rattle.checking.specs.Checks.{all-zero, all-of, normal, awaiting-right, record-right, entries-rise-from, entries-rise, waiters-sum}
 use Rattle.rules.specs.Rules.{all-content-ok}
-use Rattle.checking.proofs.Bools.{eqb-same, flag-eqb, spell, spelled, fit-take, fit-drop, fit-at, entries-eqb, all-of-and}
+use Rattle.checking.proofs.Bools.{and-assoc, eqb-same, flag-eqb, spell, spelled, fit-take, fit-drop, fit-at, entries-eqb, all-of-and}
 use Rattle.checking.proofs.Cuts.{every-append}
 
 -- The tests of an entry's words -----------------------------------------------------------------------
@@ -29,22 +30,22 @@ use Rattle.checking.proofs.Cuts.{every-append}
 abbrev pub low : List ℕ → Bool
 low e = ltb (getD e 0 0) (2 ^ 32)
 
--- A record has a value or zeros; its last use is within a number.
+-- A record has a value or zeros, and no second use; its last use is within a number.
 abbrev pub formed : List ℕ → Bool
-formed e = normal (getD e 8 0) (getD e 9 0 ∷ getD e 10 0 ∷ getD e 11 0 ∷ getD e 12 0 ∷ [])
+formed e = normal (getD e has-index 0) (getD e value-index 0 ∷ getD e (value-index + 1) 0 ∷ getD e (value-index + 2) 0 ∷ getD e (value-index + 3) 0 ∷ []) && eqb (getD e second-use-index 0) 0
 
 abbrev pub used : ℕ → List ℕ → Bool
-used n e = leb (getD e 7 0) n
+used n e = leb (getD e last-use-index 0) n
 
--- An awaiting slot has a waiter, not too many, and is taken or not.
+-- An awaiting slot has a waiter, not too many, is taken or not, and has no second number.
 abbrev pub waits : List ℕ → Bool
-waits e = ltb 0 (getD e 7 0)
+waits e = ltb 0 (getD e waiters-index 0)
 
 abbrev pub few : List ℕ → Bool
-few e = leb (getD e 7 0) 4294967295
+few e = leb (getD e waiters-index 0) 4294967295
 
 abbrev pub flagged : List ℕ → Bool
-flagged e = leb (getD e 8 0) 1
+flagged e = leb (getD e taken-index 0) 1 && eqb (getD e second-waiters-index 0) 0
 
 -- The tests of all entries, apart.
 pub records-apart : (n : ℕ) (es : List (List ℕ)) → all-of (record-right n) es ≡ (all-of low es && (all-of formed es && all-of (used n) es))
@@ -69,50 +70,50 @@ all-of-same w p q same (suc n) {l} f h =
 -- Slots -----------------------------------------------------------------------------------------------
 
 -- A slot of words that fit fits exactly when its first word does.
-slot-fits-low : (f : ℕ → ℕ) → ((i : ℕ) → f i < 2 ^ 64) → slot-fits (read-slot (spell 7 f)) ≡ ltb (f 0) (2 ^ 32)
+slot-fits-low : (f : ℕ → ℕ) → ((i : ℕ) → f i < 2 ^ 64) → slot-fits (read-slot (spell slot-width f)) ≡ ltb (f 0) (2 ^ 32)
 unfolding slot-fits spell
 slot-fits-low f h =
-    simp (lt-ltb (f 1) (2 ^ 64) (h 1), lt-ltb (f 2) (2 ^ 64) (h 2), lt-ltb (f 3) (2 ^ 64) (h 3), lt-ltb (f 4) (2 ^ 64) (h 4), lt-ltb (f 5) (2 ^ 64) (h 5), lt-ltb (f 6) (2 ^ 64) (h 6), and-true)
+    simp (lt-ltb (f capacity-index) (2 ^ 64) (h 1), lt-ltb (f max-depth-index) (2 ^ 64) (h 2), lt-ltb (f retention-index) (2 ^ 64) (h 3), lt-ltb (f idle-index) (2 ^ 64) (h 4), lt-ltb (f installed-index) (2 ^ 64) (h 5), lt-ltb (f number-index) (2 ^ 64) (h 6), and-true)
 
 -- Records ---------------------------------------------------------------------------------------------
 
-record-fits-low : (f : ℕ → ℕ) → ((i : ℕ) → f i < 2 ^ 64) → (slot-fits (read-slot (spell 13 f)) && content-fits (read-content (drop 7 (spell 13 f)))) ≡ ltb (f 0) (2 ^ 32)
+record-fits-low : (f : ℕ → ℕ) → ((i : ℕ) → f i < 2 ^ 64) → (slot-fits (read-slot (spell record-width f)) && content-fits (read-content (drop slot-width (spell record-width f)))) ≡ ltb (f 0) (2 ^ 32)
 unfolding spell
 record-fits-low f h =
-    let s : slot-fits (read-slot (spell 7 f)) ≡ ltb (f 0) (2 ^ 32) = slot-fits-low f h in
-    ap (λ (t : Bool). t && content-fits (read-content (drop 7 (spell 13 f)))) s
-    ∙ ap (λ (t : Bool). ltb (f 0) (2 ^ 32) && t) (content (eqb (f 8) 0))
+    let s : slot-fits (read-slot (spell slot-width f)) ≡ ltb (f 0) (2 ^ 32) = slot-fits-low f h in
+    ap (λ (t : Bool). t && content-fits (read-content (drop slot-width (spell record-width f)))) s
+    ∙ ap (λ (t : Bool). ltb (f 0) (2 ^ 32) && t) (content (eqb (f has-index) 0))
     ∙ and-true (ltb (f 0) (2 ^ 32))
   where
-    content : (b : Bool) → content-fits (cond b (use-only (f 7)) (valued (f 7) (record { w0 = f 9; w1 = f 10; w2 = f 11; w3 = f 12 }))) ≡ true
-    content true = lt-ltb (f 7) (2 ^ 64) (h 7)
-    content false = rw (lt-ltb (f 7) (2 ^ 64) (h 7), lt-ltb (f 9) (2 ^ 64) (h 9), lt-ltb (f 10) (2 ^ 64) (h 10), lt-ltb (f 11) (2 ^ 64) (h 11), lt-ltb (f 12) (2 ^ 64) (h 12))
+    content : (b : Bool) → content-fits (cond b (use-only (f last-use-index)) (valued (f last-use-index) (record { w0 = f value-index; w1 = f (value-index + 1); w2 = f (value-index + 2); w3 = f (value-index + 3) }))) ≡ true
+    content true = lt-ltb (f last-use-index) (2 ^ 64) (h last-use-index)
+    content false = rw (lt-ltb (f last-use-index) (2 ^ 64) (h last-use-index), lt-ltb (f value-index) (2 ^ 64) (h value-index), lt-ltb (f (value-index + 1)) (2 ^ 64) (h (value-index + 1)), lt-ltb (f (value-index + 2)) (2 ^ 64) (h (value-index + 2)), lt-ltb (f (value-index + 3)) (2 ^ 64) (h (value-index + 3)))
 
-record-same : (f : ℕ → ℕ) → words-eqb (spell 13 f) (record-words (read-record (spell 13 f))) ≡ normal (f 8) (f 9 ∷ f 10 ∷ f 11 ∷ f 12 ∷ [])
+record-same : (f : ℕ → ℕ) → words-eqb (spell record-width f) (record-words (read-record (spell record-width f))) ≡ (normal (f has-index) (f value-index ∷ f (value-index + 1) ∷ f (value-index + 2) ∷ f (value-index + 3) ∷ []) && eqb (f second-use-index) 0)
 unfolding words-eqb normal all-zero spell
-record-same f = split (eqb (f 8) 0) (λ e. simp (e, eqb-same)) (λ e. simp (e, eqb-same, and-true))
+record-same f = split (eqb (f has-index) 0) (λ e. simp (e, eqb-same, and-true, and-assoc)) (λ e. simp (e, eqb-same, and-true, and-assoc))
 
-every-entry : (p : Slot → Content → Bool) (es : List (List ℕ)) → every p (map read-record es) ≡ all-of (λ e. p (read-slot e) (read-content (drop 7 e))) es
+every-entry : (p : Slot → Content → Bool) (es : List (List ℕ)) → every p (map read-record es) ≡ all-of (λ e. p (read-slot e) (read-content (drop slot-width e))) es
 unfolding every all-of
 every-entry p [] = refl
-every-entry p (e ∷ es) = ap (λ (t : Bool). p (read-slot e) (read-content (drop 7 e)) && t) (every-entry p es)
+every-entry p (e ∷ es) = ap (λ (t : Bool). p (read-slot e) (read-content (drop slot-width e)) && t) (every-entry p es)
 
--- An entry of 13 words, by its words.
-record-low : (e : List ℕ) → length e ≡ 13 → Fit e → (slot-fits (read-slot e) && content-fits (read-content (drop 7 e))) ≡ low e
+-- A record's entry, by its words.
+record-low : (e : List ℕ) → length e ≡ record-width → Fit e → (slot-fits (read-slot e) && content-fits (read-content (drop slot-width e))) ≡ low e
 unfolding spell
 record-low e k g =
-    subst (λ (x : List ℕ). (slot-fits (read-slot x) && content-fits (read-content (drop 7 x))) ≡ low x) (sym (spelled 13 e k))
+    subst (λ (x : List ℕ). (slot-fits (read-slot x) && content-fits (read-content (drop slot-width x))) ≡ low x) (sym (spelled record-width e k))
     (record-fits-low (λ i. getD e i 0) (fit-at g))
 
-record-formed : (e : List ℕ) → length e ≡ 13 → words-eqb e (record-words (read-record e)) ≡ formed e
+record-formed : (e : List ℕ) → length e ≡ record-width → words-eqb e (record-words (read-record e)) ≡ formed e
 unfolding spell
-record-formed e k = subst (λ (x : List ℕ). words-eqb x (record-words (read-record x)) ≡ formed x) (sym (spelled 13 e k)) (record-same (λ i. getD e i 0))
+record-formed e k = subst (λ (x : List ℕ). words-eqb x (record-words (read-record x)) ≡ formed x) (sym (spelled record-width e k)) (record-same (λ i. getD e i 0))
 
 -- The records of n entries fit exactly when each first word does.
-pub records-fit : (n : ℕ) {l : List ℕ} → Fit l → 13 * n ≤ length l → every (λ s c. slot-fits s && content-fits c) (map read-record (entries 13 n l)) ≡ all-of low (entries 13 n l)
+pub records-fit : (n : ℕ) {l : List ℕ} → Fit l → record-width * n ≤ length l → every (λ s c. slot-fits s && content-fits c) (map read-record (entries record-width n l)) ≡ all-of low (entries record-width n l)
 records-fit n {l} f h =
-    every-entry (λ s c. slot-fits s && content-fits c) (entries 13 n l)
-    ∙ all-of-same 13 (λ e. slot-fits (read-slot e) && content-fits (read-content (drop 7 e))) low record-low n f h
+    every-entry (λ s c. slot-fits s && content-fits c) (entries record-width n l)
+    ∙ all-of-same record-width (λ e. slot-fits (read-slot e) && content-fits (read-content (drop slot-width e))) low record-low n f h
 
 -- Words are those of the records that they read as exactly when each has a value or zeros.
 records-joined : (rs : List Record) → all-record-words rs ≡ joined record-words rs
@@ -120,14 +121,14 @@ unfolding all-record-words joined
 records-joined [] = refl
 records-joined (r ∷ rs) = ap (λ (l : List ℕ). record-words r ++ l) (records-joined rs)
 
-record-wide : (s : Slot) (c : Content) → length (record-words (record { slot = s; content = c })) ≡ 13
+record-wide : (s : Slot) (c : Content) → length (record-words (record { slot = s; content = c })) ≡ record-width
 record-wide s (use-only u) = refl
 record-wide s (valued u v) = refl
 
-pub records-eqb : (n : ℕ) (l : List ℕ) → 13 * n ≤ length l → words-eqb (take (13 * n) l) (all-record-words (map read-record (entries 13 n l))) ≡ all-of formed (entries 13 n l)
+pub records-eqb : (n : ℕ) (l : List ℕ) → record-width * n ≤ length l → words-eqb (take (record-width * n) l) (all-record-words (map read-record (entries record-width n l))) ≡ all-of formed (entries record-width n l)
 records-eqb n l h =
-    ap (words-eqb (take (13 * n) l)) (records-joined (map read-record (entries 13 n l)))
-    ∙ entries-eqb 13 record-words read-record formed (λ r. record-wide (r .slot) (r .content)) record-formed n l h
+    ap (words-eqb (take (record-width * n) l)) (records-joined (map read-record (entries record-width n l)))
+    ∙ entries-eqb record-width record-words read-record formed (λ r. record-wide (r .slot) (r .content)) record-formed n l h
 
 -- Every record of right layers is used within the number.
 abbrev use-within : ℕ → Slot → Content → Bool
@@ -155,9 +156,9 @@ within-all n (l ∷ ls) e =
 within-used : (n : ℕ) (es : List (List ℕ)) → every (use-within n) (map read-record es) ≡ all-of (used n) es
 unfolding every all-of
 within-used n [] = refl
-within-used n (e ∷ es) = ap₂ (λ (a b : Bool). a && b) (either (eqb (getD (drop 7 e) 1 0) 0) ∙ ap (λ (u : ℕ). leb u n) (getD-drop 7 e 0 0)) (within-used n es)
+within-used n (e ∷ es) = ap₂ (λ (a b : Bool). a && b) (either (eqb (getD (drop slot-width e) 1 0) 0) ∙ ap (λ (u : ℕ). leb u n) (getD-drop slot-width e 0 0)) (within-used n es)
   where
-    either : (b : Bool) → use-within n (read-slot e) (cond b (use-only (getD (drop 7 e) 0 0)) (valued (getD (drop 7 e) 0 0) (read-u256 (drop 2 (drop 7 e))))) ≡ leb (getD (drop 7 e) 0 0) n
+    either : (b : Bool) → use-within n (read-slot e) (cond b (use-only (getD (drop slot-width e) 0 0)) (valued (getD (drop slot-width e) 0 0) (read-u256 (drop 2 (drop slot-width e))))) ≡ leb (getD (drop slot-width e) 0 0) n
     either true = refl
     either false = refl
 
@@ -166,23 +167,23 @@ uses-right n ls es h e = sym (within-used n es) ∙ ap (every (use-within n)) (s
 
 -- Awaiting slots --------------------------------------------------------------------------------------
 
-pending-same : (f : ℕ → ℕ) → words-eqb (spell 9 f) (pending-words (read-pending (spell 9 f))) ≡ leb (f 8) 1
+pending-same : (f : ℕ → ℕ) → words-eqb (spell awaiting-width f) (pending-words (read-pending (spell awaiting-width f))) ≡ (leb (f taken-index) 1 && eqb (f second-waiters-index) 0)
 unfolding words-eqb spell
 pending-same f = simp (eqb-same, and-true, flag-eqb)
 
-pending-flagged : (e : List ℕ) → length e ≡ 9 → words-eqb e (pending-words (read-pending e)) ≡ flagged e
+pending-flagged : (e : List ℕ) → length e ≡ awaiting-width → words-eqb e (pending-words (read-pending e)) ≡ flagged e
 unfolding spell
-pending-flagged e k = subst (λ (x : List ℕ). words-eqb x (pending-words (read-pending x)) ≡ flagged x) (sym (spelled 9 e k)) (pending-same (λ i. getD e i 0))
+pending-flagged e k = subst (λ (x : List ℕ). words-eqb x (pending-words (read-pending x)) ≡ flagged x) (sym (spelled awaiting-width e k)) (pending-same (λ i. getD e i 0))
 
 pending-joined : (q : List Pending) → all-pending-words q ≡ joined pending-words q
 unfolding all-pending-words joined
 pending-joined [] = refl
 pending-joined (w ∷ q) = ap (λ (l : List ℕ). pending-words w ++ l) (pending-joined q)
 
-pub pendings-eqb : (n : ℕ) (l : List ℕ) → 9 * n ≤ length l → words-eqb (take (9 * n) l) (all-pending-words (map read-pending (entries 9 n l))) ≡ all-of flagged (entries 9 n l)
+pub pendings-eqb : (n : ℕ) (l : List ℕ) → awaiting-width * n ≤ length l → words-eqb (take (awaiting-width * n) l) (all-pending-words (map read-pending (entries awaiting-width n l))) ≡ all-of flagged (entries awaiting-width n l)
 pendings-eqb n l h =
-    ap (words-eqb (take (9 * n) l)) (pending-joined (map read-pending (entries 9 n l)))
-    ∙ entries-eqb 9 pending-words read-pending flagged (λ w. refl) pending-flagged n l h
+    ap (words-eqb (take (awaiting-width * n) l)) (pending-joined (map read-pending (entries awaiting-width n l)))
+    ∙ entries-eqb awaiting-width pending-words read-pending flagged (λ w. refl) pending-flagged n l h
 
 -- Awaiting slots are right exactly when each fits and waits, and they rise.
 abbrev fits-waits : List ℕ → Bool
@@ -213,24 +214,24 @@ pending-apart (e ∷ es) =
     turn true false x y = refl
     turn true true x y = refl
 
--- A slot of 9 words.
-slot-low : (e : List ℕ) → length e ≡ 9 → Fit e → slot-fits (read-slot e) ≡ low e
+-- An awaiting slot's slot.
+slot-low : (e : List ℕ) → length e ≡ awaiting-width → Fit e → slot-fits (read-slot e) ≡ low e
 unfolding spell
-slot-low e k g = subst (λ (x : List ℕ). slot-fits (read-slot x) ≡ low x) (sym (spelled 9 e k)) (slot-fits-low (λ i. getD e i 0) (fit-at g))
+slot-low e k g = subst (λ (x : List ℕ). slot-fits (read-slot x) ≡ low x) (sym (spelled awaiting-width e k)) (slot-fits-low (λ i. getD e i 0) (fit-at g))
 
-pub pendings-right : (n : ℕ) {l : List ℕ} → Fit l → 9 * n ≤ length l → pending-ok (map read-pending (entries 9 n l)) ≡ ((all-of low (entries 9 n l) && all-of waits (entries 9 n l)) && entries-rise (entries 9 n l))
+pub pendings-right : (n : ℕ) {l : List ℕ} → Fit l → awaiting-width * n ≤ length l → pending-ok (map read-pending (entries awaiting-width n l)) ≡ ((all-of low (entries awaiting-width n l) && all-of waits (entries awaiting-width n l)) && entries-rise (entries awaiting-width n l))
 pendings-right n {l} f h =
-    pending-apart (entries 9 n l)
-    ∙ ap (λ (t : Bool). t && entries-rise (entries 9 n l))
-    (all-of-and (λ e. slot-fits (read-slot e)) waits (entries 9 n l) ∙ ap (λ (t : Bool). t && all-of waits (entries 9 n l)) (all-of-same 9 (λ e. slot-fits (read-slot e)) low slot-low n f h))
+    pending-apart (entries awaiting-width n l)
+    ∙ ap (λ (t : Bool). t && entries-rise (entries awaiting-width n l))
+    (all-of-and (λ e. slot-fits (read-slot e)) waits (entries awaiting-width n l) ∙ ap (λ (t : Bool). t && all-of waits (entries awaiting-width n l)) (all-of-same awaiting-width (λ e. slot-fits (read-slot e)) low slot-low n f h))
 
 pub waiters-are : (es : List (List ℕ)) → all-waiters (map read-pending es) ≡ waiters-sum es
 unfolding all-waiters waiters-sum
 waiters-are [] = refl
-waiters-are (e ∷ es) = ap (λ (n : ℕ). getD e 7 0 + n) (waiters-are es)
+waiters-are (e ∷ es) = ap (λ (n : ℕ). getD e waiters-index 0 + n) (waiters-are es)
 
 -- No slot has more waiters than all together.
 pub few-each : (es : List (List ℕ)) → waiters-sum es ≤ 4294967295 → all-of few es ≡ true
 unfolding waiters-sum all-of
 few-each [] h = refl
-few-each (e ∷ es) h = and-intro _ _ (le-leb (getD e 7 0) 4294967295 (omega arith)) (few-each es (omega arith))
+few-each (e ∷ es) h = and-intro _ _ (le-leb (getD e waiters-index 0) 4294967295 (omega arith)) (few-each es (omega arith))

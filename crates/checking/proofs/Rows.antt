@@ -9,6 +9,7 @@ use lib.Dec.{eqb}
 use lib.ListN.{length, take, drop, getD, length-drop, drop-of-length-le}
 use lib.Seq.{drop-drop, drop-cons, take-add, take-suc, getD-drop, take-at, drop-at}
 use borrow.Author.Tests.{ne-eqb}
+use Rattle.layout.specs.Layout.{awaiting-size, awaiting-width, record-size, record-width, slot-width}
 use Rattle.model.specs.declared.delta_snapshot.Slot.{Slot}
 use Rattle.model.specs.Slots.{slot-ltb}
 use Rattle.model.specs.Numbers.{num-from, num, Bytes}
@@ -135,15 +136,15 @@ unfolding slots-of
 length-slots wide zero s = refl
 length-slots wide (suc n) s = ap suc (length-slots wide n (drop wide s))
 
-pub slots-13 : (n : ℕ) (s : List ℕ) → slots-of 104 n s ≡ map read-slot (rows 13 n s)
+pub slots-records : (n : ℕ) (s : List ℕ) → slots-of record-size n s ≡ map read-slot (rows record-width n s)
 unfolding slots-of rows words-of
-slots-13 zero s = refl
-slots-13 (suc n) s = ap (λ (l : List Slot). read-slot (words-of 7 s) ∷ l) (slots-13 n (drop 104 s))
+slots-records zero s = refl
+slots-records (suc n) s = ap (λ (l : List Slot). read-slot (words-of slot-width s) ∷ l) (slots-records n (drop record-size s))
 
-pub slots-9 : (n : ℕ) (s : List ℕ) → slots-of 72 n s ≡ map read-slot (rows 9 n s)
+pub slots-awaiting : (n : ℕ) (s : List ℕ) → slots-of awaiting-size n s ≡ map read-slot (rows awaiting-width n s)
 unfolding slots-of rows words-of
-slots-9 zero s = refl
-slots-9 (suc n) s = ap (λ (l : List Slot). read-slot (words-of 7 s) ∷ l) (slots-9 n (drop 72 s))
+slots-awaiting zero s = refl
+slots-awaiting (suc n) s = ap (λ (l : List Slot). read-slot (words-of slot-width s) ∷ l) (slots-awaiting n (drop awaiting-size s))
 
 slots-rise-from : (e : List ℕ) (es : List (List ℕ)) → slots-rise (map read-slot (e ∷ es)) ≡ entries-rise-from e es
 unfolding slots-rise entries-rise-from

@@ -1,7 +1,7 @@
 -- One turn of each loop of the checks, and its end.
 use Prim.Native.Nat.{ℕ, zero, suc, _+_, _-_, _*_, _^_, _≤_, _<_}
 use mathlib.Core.Path.{_≡_, refl, sym, ap, ap₂, _∙_}
-use mathlib.Core.Bool.{Bool, true, false, _&&_, _||_}
+use mathlib.Core.Bool.{Bool, true, _&&_}
 use mathlib.Core.List.{List, [], _∷_}
 use native.Mathlib.Omega.{arith}
 use native.Mathlib.Numerals.{add-one}
@@ -9,14 +9,15 @@ use native.Mathlib.Nat.{mul-le-mul-right}
 use lib.Dec.{eqb, leb, ltb}
 use lib.ListN.{length, take, drop, getD, length-drop, length-take, drop-of-length-le}
 use lib.Seq.{drop-drop, drop-cons, take-add, getD-take, drop-at, slice-cons, length-take-le, take-all}
-use borrow.Author.Tests.{eq-eqb, ne-eqb, eqb-true, le-ltb, leb-true}
+use borrow.Author.Tests.{eq-eqb, ne-eqb, eqb-true, leb-true}
+use Rattle.layout.specs.Layout.{awaiting-size, awaiting-width, record-size, record-width, slot-width, waiters-index}
 use Rattle.model.specs.declared.delta_snapshot.Slot.{Slot}
-use Rattle.model.specs.Slots.{slot-ltb, words-ltb}
+use Rattle.model.specs.Slots.{slot-ltb}
 use Rattle.model.proofs.SlotLaws.{split, and-left, and-right, and-true, not-both}
 use Rattle.image.specs.Image.{words-of, read-slot}
 use Rattle.checking.specs.Checks.{all-zero, all-of, ends-rise, awaiting-right, waiters-sum, entries-rise, layers-rise, rows, slots-of, slots-rise}
 use Rattle.checking.proofs.Bools.{drop-map}
-use Rattle.checking.proofs.Rows.{drop-words, zero-words, length-rows, row-at, all-next, take-rows, length-slots, slots-13, slots-entries}
+use Rattle.checking.proofs.Rows.{drop-words, zero-words, length-rows, row-at, all-next, take-rows, length-slots, slots-records, slots-entries}
 use Rattle.checking.proofs.Cuts.{ends-rise-le}
 
 -- Zeros -----------------------------------------------------------------------------------------------
@@ -57,46 +58,23 @@ zero-tail m n base from to s d e h =
 
 -- Slots -----------------------------------------------------------------------------------------------
 
-pub less-words : (x y : List ℕ) → slot-ltb (read-slot (words-of 7 x)) (read-slot (words-of 7 y)) ≡ words-ltb (words-of 7 x) (words-of 7 y)
-unfolding slot-ltb words-of
-less-words x y = refl
-
-less-next : (a b : List ℕ) (k : ℕ) → k < length a → k < length b → words-ltb (drop k a) (drop k b) ≡ (ltb (getD a k 0) (getD b k 0) || (eqb (getD a k 0) (getD b k 0) && words-ltb (drop (k + 1) a) (drop (k + 1) b)))
-unfolding words-ltb
-less-next a b k h j = rw (add-one, drop-cons a k 0, drop-cons b k 0)
-
--- The first word that differs decides.
-pub less-differ : (a b : List ℕ) (k x y : ℕ) → k < length a → k < length b → x ≡ getD a k 0 → y ≡ getD b k 0 → (x ≡ y → ⊥) → words-ltb (drop k a) (drop k b) ≡ ltb x y
-less-differ a b k x y h j p q d = less-next a b k h j ∙ rw (← p, ← q, ne-eqb x y d) (or-false (ltb x y))
-  where
-    or-false : (t : Bool) → (t || false) ≡ t
-    or-false true = refl
-    or-false false = refl
-
-pub less-same : (a b : List ℕ) (k x y : ℕ) → k < length a → k < length b → x ≡ getD a k 0 → y ≡ getD b k 0 → x ≡ y → words-ltb (drop k a) (drop k b) ≡ words-ltb (drop (k + 1) a) (drop (k + 1) b)
-less-same a b k x y h j p q d = less-next a b k h j ∙ rw (← p, ← q, le-ltb x y (omega arith), eq-eqb x y d)
-
-pub less-end : (a b : List ℕ) (k : ℕ) → length a ≤ k → words-ltb (drop k a) (drop k b) ≡ false
-unfolding words-ltb
-less-end a b k h = rw (drop-of-length-le a h)
-
 -- The slot of entry i, and those after it.
-slot-next : (wide n i : ℕ) (s : List ℕ) → i < n → drop i (slots-of wide n s) ≡ read-slot (words-of 7 (drop (i * wide) s)) ∷ drop (suc i) (slots-of wide n s)
+slot-next : (wide n i : ℕ) (s : List ℕ) → i < n → drop i (slots-of wide n s) ≡ read-slot (words-of slot-width (drop (i * wide) s)) ∷ drop (suc i) (slots-of wide n s)
 unfolding slots-of
 slot-next wide zero i s h = absurd (omega arith)
-slot-next wide (suc n) zero s h = let e : 0 ≡ zero * wide = omega arith in ap (λ (k : ℕ). read-slot (words-of 7 (drop k s)) ∷ slots-of wide n (drop wide s)) e
+slot-next wide (suc n) zero s h = let e : 0 ≡ zero * wide = omega arith in ap (λ (k : ℕ). read-slot (words-of slot-width (drop k s)) ∷ slots-of wide n (drop wide s)) e
 slot-next wide (suc n) (suc i) s h =
     let e : wide + i * wide ≡ suc i * wide = omega arith in
     slot-next wide n i (drop wide s) (omega arith)
-    ∙ ap (λ (l : List ℕ). read-slot (words-of 7 l) ∷ drop (suc i) (slots-of wide n (drop wide s))) (drop-drop (i * wide) wide s ∙ ap (λ (k : ℕ). drop k s) e)
+    ∙ ap (λ (l : List ℕ). read-slot (words-of slot-width l) ∷ drop (suc i) (slots-of wide n (drop wide s))) (drop-drop (i * wide) wide s ∙ ap (λ (k : ℕ). drop k s) e)
 
-pub rise-next : (wide n i : ℕ) (s : List ℕ) → i + 1 < n → slots-rise (drop i (slots-of wide n s)) ≡ (slot-ltb (read-slot (words-of 7 (drop (i * wide) s))) (read-slot (words-of 7 (drop ((i + 1) * wide) s))) && slots-rise (drop (i + 1) (slots-of wide n s)))
+pub rise-next : (wide n i : ℕ) (s : List ℕ) → i + 1 < n → slots-rise (drop i (slots-of wide n s)) ≡ (slot-ltb (read-slot (words-of slot-width (drop (i * wide) s))) (read-slot (words-of slot-width (drop ((i + 1) * wide) s))) && slots-rise (drop (i + 1) (slots-of wide n s)))
 unfolding slots-rise
 rise-next wide n i s h =
-    let p : drop i (slots-of wide n s) ≡ read-slot (words-of 7 (drop (i * wide) s)) ∷ drop (i + 1) (slots-of wide n s) = slot-next wide n i s (omega arith) ∙ rw add-one in
-    let q : drop (i + 1) (slots-of wide n s) ≡ read-slot (words-of 7 (drop ((i + 1) * wide) s)) ∷ drop (suc (i + 1)) (slots-of wide n s) = slot-next wide n (i + 1) s h in
-    let a : Slot = read-slot (words-of 7 (drop (i * wide) s)) in
-    let b : Slot = read-slot (words-of 7 (drop ((i + 1) * wide) s)) in
+    let p : drop i (slots-of wide n s) ≡ read-slot (words-of slot-width (drop (i * wide) s)) ∷ drop (i + 1) (slots-of wide n s) = slot-next wide n i s (omega arith) ∙ rw add-one in
+    let q : drop (i + 1) (slots-of wide n s) ≡ read-slot (words-of slot-width (drop ((i + 1) * wide) s)) ∷ drop (suc (i + 1)) (slots-of wide n s) = slot-next wide n (i + 1) s h in
+    let a : Slot = read-slot (words-of slot-width (drop (i * wide) s)) in
+    let b : Slot = read-slot (words-of slot-width (drop ((i + 1) * wide) s)) in
     ap slots-rise (p ∙ ap (λ (l : List Slot). a ∷ l) q) ∙ ap (λ (l : List Slot). slot-ltb a b && slots-rise l) (sym q)
 
 few-rise : (l : List Slot) → length l ≤ 1 → slots-rise l ≡ true
@@ -150,60 +128,60 @@ all-of-at p [] i h e = absurd (omega arith)
 all-of-at p (x ∷ es) zero h e = and-left (p x) _ e
 all-of-at p (x ∷ es) (suc i) h e = all-of-at p es i (omega arith) (and-right (p x) _ e)
 
-pub waiters-next : (n i x : ℕ) (s : List ℕ) → i < n → x ≡ getD (words-of 9 (drop (72 * i) s)) 7 0 → waiters-sum (drop i (rows 9 n s)) ≡ x + waiters-sum (drop (i + 1) (rows 9 n s))
+pub waiters-next : (n i x : ℕ) (s : List ℕ) → i < n → x ≡ getD (words-of awaiting-width (drop (awaiting-size * i) s)) waiters-index 0 → waiters-sum (drop i (rows awaiting-width n s)) ≡ x + waiters-sum (drop (i + 1) (rows awaiting-width n s))
 unfolding waiters-sum
 waiters-next n i x s h e =
-    let p : i < length (rows 9 n s) = omega (arith, length-rows 9 n s) in
-    let q : getD (getD (rows 9 n s) i []) 7 0 ≡ x = ap (λ (r : List ℕ). getD r 7 0) (row-at 9 n i s h) ∙ sym e in
-    rw (add-one, drop-cons (rows 9 n s) i [] p, q)
+    let p : i < length (rows awaiting-width n s) = omega (arith, length-rows awaiting-width n s) in
+    let q : getD (getD (rows awaiting-width n s) i []) waiters-index 0 ≡ x = ap (λ (r : List ℕ). getD r waiters-index 0) (row-at awaiting-width n i s h) ∙ sym e in
+    rw (add-one, drop-cons (rows awaiting-width n s) i [] p, q)
 
-pub waiters-end : (n i : ℕ) (s : List ℕ) → n ≤ i → waiters-sum (drop i (rows 9 n s)) ≡ 0
+pub waiters-end : (n i : ℕ) (s : List ℕ) → n ≤ i → waiters-sum (drop i (rows awaiting-width n s)) ≡ 0
 unfolding waiters-sum
 waiters-end n i s h =
-    let p : length (rows 9 n s) ≤ i = omega (arith, length-rows 9 n s) in
-    rw (drop-of-length-le (rows 9 n s) p)
+    let p : length (rows awaiting-width n s) ≤ i = omega (arith, length-rows awaiting-width n s) in
+    rw (drop-of-length-le (rows awaiting-width n s) p)
 
 -- A right awaiting slot has few waiters.
-pub waiters-few : (n i x : ℕ) (s : List ℕ) → i < n → x ≡ getD (words-of 9 (drop (72 * i) s)) 7 0 → all-of awaiting-right (rows 9 n s) ≡ true → x ≤ 4294967295
+pub waiters-few : (n i x : ℕ) (s : List ℕ) → i < n → x ≡ getD (words-of awaiting-width (drop (awaiting-size * i) s)) waiters-index 0 → all-of awaiting-right (rows awaiting-width n s) ≡ true → x ≤ 4294967295
 unfolding awaiting-right
 waiters-few n i x s h e a =
-    let r : List ℕ = words-of 9 (drop (72 * i) s) in
-    let p : awaiting-right r ≡ true = ap awaiting-right (sym (row-at 9 n i s h)) ∙ all-of-at awaiting-right (rows 9 n s) i (omega (arith, length-rows 9 n s)) a in
-    let q : leb (getD r 7 0) 4294967295 ≡ true = and-left (leb (getD r 7 0) 4294967295) _ (and-right (ltb 0 (getD r 7 0)) _ (and-right (ltb (getD r 0 0) (2 ^ 32)) _ p)) in
-    omega (arith, leb-true (getD r 7 0) 4294967295 q)
+    let r : List ℕ = words-of awaiting-width (drop (awaiting-size * i) s) in
+    let p : awaiting-right r ≡ true = ap awaiting-right (sym (row-at awaiting-width n i s h)) ∙ all-of-at awaiting-right (rows awaiting-width n s) i (omega (arith, length-rows awaiting-width n s)) a in
+    let q : leb (getD r waiters-index 0) 4294967295 ≡ true = and-left (leb (getD r waiters-index 0) 4294967295) _ (and-right (ltb 0 (getD r waiters-index 0)) _ (and-right (ltb (getD r 0 0) (2 ^ 32)) _ p)) in
+    omega (arith, leb-true (getD r waiters-index 0) 4294967295 q)
 
 -- Layers ----------------------------------------------------------------------------------------------
 
 -- The records from number `from` to number `to` rise.
-run-rises : (n from to : ℕ) (s : List ℕ) → from ≤ to → to ≤ n → entries-rise (take (to - from) (drop from (rows 13 n s))) ≡ slots-rise (drop from (slots-of 104 to s))
+run-rises : (n from to : ℕ) (s : List ℕ) → from ≤ to → to ≤ n → entries-rise (take (to - from) (drop from (rows record-width n s))) ≡ slots-rise (drop from (slots-of record-size to s))
 run-rises n from to s h k =
     let e : to + (n - to) ≡ n = omega arith in
     let d : from + (to - from) ≡ to = omega arith in
     ap entries-rise
-    (sym (drop-take from (to - from) (rows 13 n s) (omega (arith, length-rows 13 n s)))
-    ∙ ap (λ (m : ℕ). drop from (take m (rows 13 n s))) d
-    ∙ ap (λ (m : ℕ). drop from (take to (rows 13 m s))) (sym e)
-    ∙ ap (drop from) (take-rows 13 to (n - to) s))
-    ∙ sym (slots-entries (drop from (rows 13 to s)))
-    ∙ ap slots-rise (sym (drop-map read-slot from (rows 13 to s)) ∙ ap (drop from) (sym (slots-13 to s)))
+    (sym (drop-take from (to - from) (rows record-width n s) (omega (arith, length-rows record-width n s)))
+    ∙ ap (λ (m : ℕ). drop from (take m (rows record-width n s))) d
+    ∙ ap (λ (m : ℕ). drop from (take to (rows record-width m s))) (sym e)
+    ∙ ap (drop from) (take-rows record-width to (n - to) s))
+    ∙ sym (slots-entries (drop from (rows record-width to s)))
+    ∙ ap slots-rise (sym (drop-map read-slot from (rows record-width to s)) ∙ ap (drop from) (sym (slots-records to s)))
 
 pub layers-next : (n from k d x : ℕ) (l s : List ℕ) → k ≤ d → d < length l → x ≡ getD l k 0 → from ≤ x → x ≤ n →
-    layers-rise from (drop k (take (suc d) l)) (drop from (rows 13 n s)) ≡ (slots-rise (drop from (slots-of 104 x s)) && layers-rise x (drop (k + 1) (take (suc d) l)) (drop x (rows 13 n s)))
+    layers-rise from (drop k (take (suc d) l)) (drop from (rows record-width n s)) ≡ (slots-rise (drop from (slots-of record-size x s)) && layers-rise x (drop (k + 1) (take (suc d) l)) (drop x (rows record-width n s)))
 unfolding layers-rise
 layers-next n from k d x l s h j e a b =
     let p : k < length (take (suc d) l) = omega (arith, length-take-le (suc d) l (omega arith)) in
     let q : getD (take (suc d) l) k 0 ≡ x = getD-take (suc d) l k 0 (omega arith) ∙ sym e in
     let c : drop k (take (suc d) l) ≡ x ∷ drop (k + 1) (take (suc d) l) = rw (add-one, drop-cons (take (suc d) l) k 0 p, q) in
     let m : from + (x - from) ≡ x = omega arith in
-    ap (λ (es : List ℕ). layers-rise from es (drop from (rows 13 n s))) c
-    ∙ ap₂ (λ (t : Bool) (es : List (List ℕ)). t && layers-rise x (drop (k + 1) (take (suc d) l)) es) (run-rises n from x s a b) (drop-drop (x - from) from (rows 13 n s) ∙ ap (λ (i : ℕ). drop i (rows 13 n s)) m)
+    ap (λ (es : List ℕ). layers-rise from es (drop from (rows record-width n s))) c
+    ∙ ap₂ (λ (t : Bool) (es : List (List ℕ)). t && layers-rise x (drop (k + 1) (take (suc d) l)) es) (run-rises n from x s a b) (drop-drop (x - from) from (rows record-width n s) ∙ ap (λ (i : ℕ). drop i (rows record-width n s)) m)
 
-pub layers-end : (n from k d : ℕ) (l s : List ℕ) → suc d ≤ k → from ≤ n → layers-rise from (drop k (take (suc d) l)) (drop from (rows 13 n s)) ≡ slots-rise (drop from (slots-of 104 n s))
+pub layers-end : (n from k d : ℕ) (l s : List ℕ) → suc d ≤ k → from ≤ n → layers-rise from (drop k (take (suc d) l)) (drop from (rows record-width n s)) ≡ slots-rise (drop from (slots-of record-size n s))
 unfolding layers-rise
 layers-end n from k d l s h a =
     let p : length (take (suc d) l) ≤ k = simp length-take (omega arith) in
-    let q : length (drop from (rows 13 n s)) ≤ n - from = omega (arith, length-drop from (rows 13 n s), length-rows 13 n s) in
-    rw (drop-of-length-le (take (suc d) l) p) (ap entries-rise (sym (take-all (n - from) (drop from (rows 13 n s)) q)) ∙ run-rises n from n s a (omega arith))
+    let q : length (drop from (rows record-width n s)) ≤ n - from = omega (arith, length-drop from (rows record-width n s), length-rows record-width n s) in
+    rw (drop-of-length-le (take (suc d) l) p) (ap entries-rise (sym (take-all (n - from) (drop from (rows record-width n s)) q)) ∙ run-rises n from n s a (omega arith))
 
 -- An end that was read, of ends that rise.
 pub record Next (n from x : ℕ) (es : List ℕ) : Type 0 where

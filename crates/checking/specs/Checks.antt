@@ -4,12 +4,13 @@ use mathlib.Core.Bool.{Bool, true, _&&_, cond}
 use mathlib.Core.List.{List, [], _∷_, _++_, map}
 use lib.Dec.{eqb, leb, ltb}
 use lib.ListN.{length, take, drop, getD}
+use Rattle.layout.specs.Layout.{accepted-index, awaiting-count-index, awaiting-limit, awaiting-offset, awaiting-table, awaiting-width, capacity-index, coalesced-index, depth-index, ends-limit, ends-offset, errors-index, has-index, hash-index, header-width, idle-index, installed-index, last-use-index, magic, max-depth-index, members-index, number-index, record-size, record-width, records-count-index, records-offset, refused-index, retention-index, rounds-index, second-use-index, second-waiters-index, served-index, slot-width, taken-index, value-index, valued-index, waiters-index, waiting-index}
 use Rattle.model.specs.declared.delta_snapshot.Slot.{Slot}
 use Rattle.model.specs.declared.delta_snapshot.Retention.{Retention}
 use Rattle.model.specs.Slots.{slot-ltb}
 use Rattle.model.specs.Layers.{freshest-use}
 use Rattle.image.specs.WellFormed.{every, top-content-ok}
-use Rattle.image.specs.Image.{words-of, magic, read-slot, read-record, read-retention, entries, Cut, cut}
+use Rattle.image.specs.Image.{words-of, read-slot, read-record, read-retention, entries, Cut, cut}
 use Rattle.rules.specs.Rules.{all-content-ok}
 
 -- Every number of a list is 0.
@@ -24,7 +25,7 @@ all-of p (e ∷ es) = p e && all-of p es
 
 -- A flag and the words that count only with it: 0 and zeros, or 1 and any words.
 unfoldable pub normal : ℕ → List ℕ → Bool
-normal f l = cond (eqb f 0) (all-zero l) (eqb f 1)
+normal f l = cond (eqb f 0) (all-zero l) (eqb f capacity-index)
 
 -- The header -------------------------------------------------------------------------------------------
 
@@ -32,15 +33,15 @@ normal f l = cond (eqb f 0) (all-zero l) (eqb f 1)
 unfoldable pub config-right : List ℕ → Bool
 config-right h =
     eqb (getD h 0 0) magic
-    && (ltb 0 (getD h 1 0) && (leb (getD h 1 0) 4096 && (ltb 0 (getD h 2 0) && (leb (getD h 2 0) 255 && normal (getD h 3 0) (getD h 4 0 ∷ [])))))
+    && (ltb 0 (getD h capacity-index 0) && (leb (getD h capacity-index 0) 4096 && (ltb 0 (getD h max-depth-index 0) && (leb (getD h max-depth-index 0) 255 && normal (getD h retention-index 0) (getD h idle-index 0 ∷ [])))))
 
 -- Words 5 to 11: a generation is installed, and its anchor has a hash or zeros.
 unfoldable pub anchor-right : List ℕ → Bool
-anchor-right h = eqb (getD h 5 0) 1 && normal (getD h 7 0) (getD h 8 0 ∷ getD h 9 0 ∷ getD h 10 0 ∷ getD h 11 0 ∷ [])
+anchor-right h = eqb (getD h installed-index 0) 1 && normal (getD h hash-index 0) (getD h (hash-index + 1) 0 ∷ getD h (hash-index + 2) 0 ∷ getD h (hash-index + 3) 0 ∷ getD h (hash-index + 4) 0 ∷ [])
 
 -- Words 12 to 14: depth, records and awaiting slots are within their limits.
 unfoldable pub counts-right : List ℕ → Bool
-counts-right h = leb (getD h 12 0) (getD h 2 0) && (leb (getD h 13 0) (getD h 1 0) && leb (getD h 14 0) 64)
+counts-right h = leb (getD h depth-index 0) (getD h max-depth-index 0) && (leb (getD h records-count-index 0) (getD h capacity-index 0) && leb (getD h awaiting-count-index 0) awaiting-limit)
 
 -- The read totals add up, with w waiters of n awaiting slots: those accepted, served, waiting, woken with a value and refused, rounds, members, member errors, coalesced.
 unfoldable pub totals-add-up : ℕ → ℕ → ℕ → ℕ → ℕ → ℕ → ℕ → ℕ → ℕ → ℕ → ℕ → Bool
@@ -51,7 +52,7 @@ totals-add-up w n accepted served waiting valued refused rounds members errors c
 
 -- Words 15 to 23.
 unfoldable pub totals-right : ℕ → ℕ → List ℕ → Bool
-totals-right w n h = totals-add-up w n (getD h 15 0) (getD h 16 0) (getD h 17 0) (getD h 18 0) (getD h 19 0) (getD h 20 0) (getD h 21 0) (getD h 22 0) (getD h 23 0)
+totals-right w n h = totals-add-up w n (getD h accepted-index 0) (getD h served-index 0) (getD h waiting-index 0) (getD h valued-index 0) (getD h refused-index 0) (getD h rounds-index 0) (getD h members-index 0) (getD h errors-index 0) (getD h coalesced-index 0)
 
 -- The layer ends ---------------------------------------------------------------------------------------
 
@@ -76,32 +77,32 @@ abbrev pub entries-rise : List (List ℕ) → Bool
 entries-rise [] = true
 entries-rise (e ∷ es) = entries-rise-from e es
 
--- An awaiting slot: its first word fits, it has a waiter and no more than a generation's reads, and it is taken or not.
+-- An awaiting slot: its first word fits, it has a waiter and no more than a generation's reads, it is taken or not, and has no second number.
 unfoldable pub awaiting-right : List ℕ → Bool
-awaiting-right e = ltb (getD e 0 0) (2 ^ 32) && (ltb 0 (getD e 7 0) && (leb (getD e 7 0) 4294967295 && leb (getD e 8 0) 1))
+awaiting-right e = ltb (getD e 0 0) (2 ^ 32) && (ltb 0 (getD e waiters-index 0) && (leb (getD e waiters-index 0) 4294967295 && (leb (getD e taken-index 0) 1 && eqb (getD e second-waiters-index 0) 0)))
 
 -- The waiters of awaiting slots.
 unfoldable pub waiters-sum : List (List ℕ) → ℕ
 waiters-sum [] = 0
-waiters-sum (e ∷ es) = getD e 7 0 + waiters-sum es
+waiters-sum (e ∷ es) = getD e waiters-index 0 + waiters-sum es
 
 -- The k awaiting slots are right and rise, and the other words are 0.
 unfoldable pub queue-right : ℕ → List ℕ → Bool
-queue-right k l = all-of awaiting-right (entries 9 k l) && (entries-rise (entries 9 k l) && all-zero (drop (9 * k) l))
+queue-right k l = all-of awaiting-right (entries awaiting-width k l) && (entries-rise (entries awaiting-width k l) && all-zero (drop (awaiting-width * k) l))
 
 -- The same, and the read totals of header h add up with them.
 unfoldable pub reads-right : ℕ → List ℕ → List ℕ → Bool
-reads-right k h l = queue-right k l && totals-right (waiters-sum (entries 9 k l)) k h
+reads-right k h l = queue-right k l && totals-right (waiters-sum (entries awaiting-width k l)) k h
 
--- A record by itself: its slot's first word fits, it has a value or zeros, and its last use is not after the installed number.
+-- A record by itself: its slot's first word fits, it has a value or zeros, no second use, and its last use is not after the installed number.
 unfoldable pub record-right : ℕ → List ℕ → Bool
 record-right number e =
     ltb (getD e 0 0) (2 ^ 32)
-    && (normal (getD e 8 0) (getD e 9 0 ∷ getD e 10 0 ∷ getD e 11 0 ∷ getD e 12 0 ∷ []) && leb (getD e 7 0) number)
+    && ((normal (getD e has-index 0) (getD e value-index 0 ∷ getD e (value-index + 1) 0 ∷ getD e (value-index + 2) 0 ∷ getD e (value-index + 3) 0 ∷ []) && eqb (getD e second-use-index 0) 0) && leb (getD e last-use-index 0) number)
 
 -- The n records are right by themselves, and the other words are 0.
 unfoldable pub area-right : ℕ → ℕ → List ℕ → Bool
-area-right number n l = all-of (record-right number) (entries 13 n l) && all-zero (drop (13 * n) l)
+area-right number n l = all-of (record-right number) (entries record-width n l) && all-zero (drop (record-width * n) l)
 
 -- The records of each layer, and of the top, rise; the records before `from` are passed already.
 unfoldable pub layers-rise : ℕ → List ℕ → List (List ℕ) → Bool
@@ -110,7 +111,7 @@ layers-rise from (e ∷ ends) es = entries-rise (take (e - from) es) && layers-r
 
 -- The n records are right by themselves and rise in their layers, of which `ends` has the ends.
 unfoldable pub records-right : ℕ → ℕ → ℕ → List ℕ → List ℕ → Bool
-records-right number d n ends l = area-right number n l && layers-rise 0 (take (suc d) ends) (entries 13 n l)
+records-right number d n ends l = area-right number n l && layers-rise 0 (take (suc d) ends) (entries record-width n l)
 
 -- Rules across layers -----------------------------------------------------------------------------------
 
@@ -122,25 +123,25 @@ cross-right R number c = all-content-ok number (c .top ∷ c .base) && every (λ
 
 -- The layers and the top of a store's header, layer ends and records.
 abbrev pub layers-of : List ℕ → List ℕ → List ℕ → Cut
-layers-of h ends records = cut 0 (take (suc (getD h 12 0)) ends) (map read-record (entries 13 (getD h 13 0) records)) []
+layers-of h ends records = cut 0 (take (suc (getD h depth-index 0)) ends) (map read-record (entries record-width (getD h records-count-index 0) records)) []
 
 -- All checks of an installed generation but the rules across layers.
 unfoldable pub parts-right : List ℕ → List ℕ → List ℕ → List ℕ → Bool
 parts-right h ends awaiting records =
     anchor-right h
     && (counts-right h
-    && (ends-right (getD h 12 0) (getD h 13 0) ends
-    && (reads-right (getD h 14 0) h awaiting && records-right (getD h 6 0) (getD h 12 0) (getD h 13 0) ends records)))
+    && (ends-right (getD h depth-index 0) (getD h records-count-index 0) ends
+    && (reads-right (getD h awaiting-count-index 0) h awaiting && records-right (getD h number-index 0) (getD h depth-index 0) (getD h records-count-index 0) ends records)))
 
 -- The rules across layers.
 unfoldable pub rules-right : List ℕ → List ℕ → List ℕ → Bool
-rules-right h ends records = cross-right (read-retention (drop 3 h)) (getD h 6 0) (layers-of h ends records)
+rules-right h ends records = cross-right (read-retention (drop retention-index h)) (getD h number-index 0) (layers-of h ends records)
 
 -- All checks of a store's four parts. With nothing installed all words from word 5 on are 0.
 unfoldable pub store-right : List ℕ → List ℕ → List ℕ → List ℕ → Bool
 store-right h ends awaiting records =
     config-right h
-    && cond (eqb (getD h 5 0) 0) (all-zero (drop 5 (h ++ (ends ++ (awaiting ++ records))))) (parts-right h ends awaiting records && rules-right h ends records)
+    && cond (eqb (getD h installed-index 0) 0) (all-zero (drop installed-index (h ++ (ends ++ (awaiting ++ records))))) (parts-right h ends awaiting records && rules-right h ends records)
 
 -- In bytes ----------------------------------------------------------------------------------------------
 
@@ -152,7 +153,7 @@ rows w (suc n) s = words-of w s ∷ rows w n (drop (8 * w) s)
 -- The slots of n entries of so many bytes each.
 unfoldable pub slots-of : ℕ → ℕ → List ℕ → List Slot
 slots-of wide zero s = []
-slots-of wide (suc n) s = read-slot (words-of 7 s) ∷ slots-of wide n (drop wide s)
+slots-of wide (suc n) s = read-slot (words-of slot-width s) ∷ slots-of wide n (drop wide s)
 
 -- Slots rise strictly.
 unfoldable pub slots-rise : List Slot → Bool
@@ -162,22 +163,22 @@ slots-rise (a ∷ b ∷ l) = slot-ltb a b && slots-rise (b ∷ l)
 
 -- The capacity that bytes name.
 abbrev pub capacity-of : List ℕ → ℕ
-capacity-of s = getD (words-of 24 s) 1 0
+capacity-of s = getD (words-of header-width s) capacity-index 0
 
 -- Bytes whose capacity and depth limit are within their limits, and that are as long as a store of that capacity.
 pub record Sized (s : List ℕ) : Type 0 where
   pub few : capacity-of s ≤ 4096
-  pub shallow : getD (words-of 24 s) 2 0 ≤ 255
-  pub long : 6848 + 104 * capacity-of s ≤ length s
+  pub shallow : getD (words-of header-width s) max-depth-index 0 ≤ 255
+  pub long : records-offset + record-size * capacity-of s ≤ length s
 
 -- All checks of an installed generation's bytes but the rules across layers.
 abbrev pub parts-in : List ℕ → Bool
-parts-in s = parts-right (words-of 24 s) (words-of 256 (drop 192 s)) (words-of 576 (drop 2240 s)) (words-of (13 * capacity-of s) (drop 6848 s))
+parts-in s = parts-right (words-of header-width s) (words-of ends-limit (drop ends-offset s)) (words-of awaiting-table (drop awaiting-offset s)) (words-of (record-width * capacity-of s) (drop records-offset s))
 
 -- The rules across layers, of bytes.
 abbrev pub rules-in : List ℕ → Bool
-rules-in s = rules-right (words-of 24 s) (words-of 256 (drop 192 s)) (words-of (13 * capacity-of s) (drop 6848 s))
+rules-in s = rules-right (words-of header-width s) (words-of ends-limit (drop ends-offset s)) (words-of (record-width * capacity-of s) (drop records-offset s))
 
 -- All checks of a store's bytes.
 unfoldable pub bytes-right : List ℕ → Bool
-bytes-right s = store-right (words-of 24 s) (words-of 256 (drop 192 s)) (words-of 576 (drop 2240 s)) (words-of (13 * capacity-of s) (drop 6848 s))
+bytes-right s = store-right (words-of header-width s) (words-of ends-limit (drop ends-offset s)) (words-of awaiting-table (drop awaiting-offset s)) (words-of (record-width * capacity-of s) (drop records-offset s))

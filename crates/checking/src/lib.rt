@@ -5,24 +5,13 @@ ghost use lib.Dec.{eqb, leb};
 ghost use mathlib.Core.List.{[], _∷_};
 ghost use Prim.Native.Nat.{ℕ, suc, _+_, _*_, _≤_, _<_};
 ghost use lib.ListN.{length, take, drop, getD};
+ghost use Rattle.layout.specs.Layout.{awaiting-offset, awaiting-size, awaiting-table, awaiting-width, ends-limit, ends-offset, ends-size, header-width, record-size, record-width, records-offset, slot-size};
 ghost use Rattle.model.specs.Numbers.{Bytes};
-ghost use Rattle.model.specs.Slots.{slot-ltb};
-ghost use Rattle.image.specs.Image.{words-of, read-slot};
+ghost use Rattle.image.specs.Image.{words-of};
 ghost use Rattle.checking.specs.Checks.{all-zero, all-of, normal, config-right, anchor-right, counts-right, totals-add-up, totals-right, ends-rise, ends-right, awaiting-right, waiters-sum, queue-right, reads-right, record-right, area-right, records-right, layers-rise, rows, slots-of, slots-rise};
 
-// Where the layer ends, the awaiting slots and the records begin (docs/LAYOUT.md), and the bytes of an awaiting slot and of a record.
-pub const ENDS: usize = 192;
-
-pub const AWAITING: usize = 2240;
-
-pub const RECORDS: usize = 6848;
-
-const AWAITING_BYTES: usize = 72;
-
-pub const RECORD_BYTES: usize = 104;
-
-// The first word of every store.
-const MAGIC: u64 = 0x706f78696c6d6501;
+// Where the end of layer 1 stands: the ends past layer d begin d words after it.
+const SECOND_END_OFFSET: usize = layout::ENDS_OFFSET + 8;
 
 // The accepted reads of a generation are at most so many.
 const MOST_READS: u64 = 0xffff_ffff;
@@ -62,31 +51,14 @@ pub fn zero(s: &[u8], from: usize, to: usize) -> bool
     m == 0
 }
 
-// Whether the slot at `a` comes before the one at `b`.
-fn slot_less(s: &[u8], a: usize, b: usize) -> bool
-    requires { ⌜ (a + 56 ≤ length (now s)) × (b + 56 ≤ length (now s)) ⌝ }
-    ensures { λ r. ⌜ r ≡ slot-ltb (read-slot (words-of 7 (drop a (now (s .entry))))) (read-slot (words-of 7 (drop b (now (s .entry))))) ⌝ }
-{
-    let mut k = 0;
-    while k < 7 {
-        let x = word(s, a, k);
-        let y = word(s, b, k);
-        if x != y {
-            return x < y;
-        }
-        k += 1;
-    }
-    false
-}
-
 // Whether the slots of the entries from number `from` to number `to` rise. An entry has `wide` bytes.
 fn rises(s: &[u8], wide: usize, from: usize, to: usize) -> bool
-    requires { ⌜ (56 ≤ wide) × (from ≤ to) × (to * wide ≤ length (now s)) ⌝ }
+    requires { ⌜ (slot-size ≤ wide) × (from ≤ to) × (to * wide ≤ length (now s)) ⌝ }
     ensures { λ r. ⌜ r ≡ slots-rise (drop from (slots-of wide to (now (s .entry)))) ⌝ }
 {
     let mut i = from;
     while i + 1 < to {
-        if !slot_less(s, i * wide, (i + 1) * wide) {
+        if !order::slot_less(s, i * wide, (i + 1) * wide) {
             return false;
         }
         i += 1;
@@ -120,7 +92,7 @@ fn normal_words(s: &[u8], at: usize) -> bool
 fn config_words(m: u64, capacity: u64, depth: u64, f: u64, idle: u64) -> bool
     ensures { λ r. ⌜ r ≡ config-right (m ∷ capacity ∷ depth ∷ f ∷ idle ∷ []) ⌝ }
 {
-    if m != MAGIC {
+    if m != layout::MAGIC {
         return false;
     }
     if capacity == 0 {
@@ -140,41 +112,41 @@ fn config_words(m: u64, capacity: u64, depth: u64, f: u64, idle: u64) -> bool
 
 // Words 0 to 4.
 pub fn config_right(s: &[u8]) -> bool
-    requires { ⌜ 192 ≤ length (now s) ⌝ }
-    ensures { λ r. ⌜ r ≡ config-right (words-of 24 (now (s .entry))) ⌝ }
+    requires { ⌜ ends-offset ≤ length (now s) ⌝ }
+    ensures { λ r. ⌜ r ≡ config-right (words-of header-width (now (s .entry))) ⌝ }
 {
     config_words(
         word(s, 0, 0),
-        word(s, 0, 1),
-        word(s, 0, 2),
-        word(s, 0, 3),
-        word(s, 0, 4),
+        word(s, 0, layout::CAPACITY_INDEX),
+        word(s, 0, layout::MAX_DEPTH_INDEX),
+        word(s, 0, layout::RETENTION_INDEX),
+        word(s, 0, layout::IDLE_INDEX),
     )
 }
 
 // Words 5 to 11.
 pub fn anchor_right(s: &[u8]) -> bool
-    requires { ⌜ 192 ≤ length (now s) ⌝ }
-    ensures { λ r. ⌜ r ≡ anchor-right (words-of 24 (now (s .entry))) ⌝ }
+    requires { ⌜ ends-offset ≤ length (now s) ⌝ }
+    ensures { λ r. ⌜ r ≡ anchor-right (words-of header-width (now (s .entry))) ⌝ }
 {
-    if word(s, 0, 5) != 1 {
+    if word(s, 0, layout::INSTALLED_INDEX) != 1 {
         return false;
     }
-    normal_words(s, 56)
+    normal_words(s, layout::HASH_OFFSET)
 }
 
 // Words 12 to 14.
 pub fn counts_right(s: &[u8]) -> bool
-    requires { ⌜ 192 ≤ length (now s) ⌝ }
-    ensures { λ r. ⌜ r ≡ counts-right (words-of 24 (now (s .entry))) ⌝ }
+    requires { ⌜ ends-offset ≤ length (now s) ⌝ }
+    ensures { λ r. ⌜ r ≡ counts-right (words-of header-width (now (s .entry))) ⌝ }
 {
-    if word(s, 0, 2) < word(s, 0, 12) {
+    if word(s, 0, layout::MAX_DEPTH_INDEX) < word(s, 0, layout::DEPTH_INDEX) {
         return false;
     }
-    if word(s, 0, 1) < word(s, 0, 13) {
+    if word(s, 0, layout::CAPACITY_INDEX) < word(s, 0, layout::RECORDS_COUNT_INDEX) {
         return false;
     }
-    word(s, 0, 14) <= 64
+    word(s, 0, layout::AWAITING_COUNT_INDEX) <= layout::AWAITING_LIMIT as u64
 }
 
 // Whether the accepted reads are few, and the sum of the others.
@@ -245,28 +217,28 @@ fn totals_test(
 
 // Words 15 to 23.
 fn totals_right(s: &[u8], w: u64, n: u64) -> bool
-    requires { ⌜ 192 ≤ length (now s) ⌝ }
-    ensures { λ r. ⌜ r ≡ totals-right w n (words-of 24 (now (s .entry))) ⌝ }
+    requires { ⌜ ends-offset ≤ length (now s) ⌝ }
+    ensures { λ r. ⌜ r ≡ totals-right w n (words-of header-width (now (s .entry))) ⌝ }
 {
     totals_test(
         w,
         n,
-        word(s, 0, 15),
-        word(s, 0, 16),
-        word(s, 0, 17),
-        word(s, 0, 18),
-        word(s, 0, 19),
-        word(s, 0, 20),
-        word(s, 0, 21),
-        word(s, 0, 22),
-        word(s, 0, 23),
+        word(s, 0, layout::ACCEPTED_INDEX),
+        word(s, 0, layout::SERVED_INDEX),
+        word(s, 0, layout::WAITING_INDEX),
+        word(s, 0, layout::VALUED_INDEX),
+        word(s, 0, layout::REFUSED_INDEX),
+        word(s, 0, layout::ROUNDS_INDEX),
+        word(s, 0, layout::MEMBERS_INDEX),
+        word(s, 0, layout::ERRORS_INDEX),
+        word(s, 0, layout::COALESCED_INDEX),
     )
 }
 
 // Whether the ends of layers 0 to depth never fall, and are at most n.
 fn ends_rise(s: &[u8], depth: usize, n: u64) -> bool
-    requires { ⌜ (depth ≤ 255) × (2048 ≤ length (now s)) ⌝ }
-    ensures { λ r. ⌜ r ≡ ends-rise n 0 (take (suc depth) (words-of 256 (now (s .entry)))) ⌝ }
+    requires { ⌜ (depth ≤ 255) × (ends-size ≤ length (now s)) ⌝ }
+    ensures { λ r. ⌜ r ≡ ends-rise n 0 (take (suc depth) (words-of ends-limit (now (s .entry)))) ⌝ }
 {
     let mut from = 0;
     let mut k = 0;
@@ -283,41 +255,44 @@ fn ends_rise(s: &[u8], depth: usize, n: u64) -> bool
 
 // The layer ends.
 pub fn ends_right(s: &[u8], depth: usize, n: u64) -> bool
-    requires { ⌜ (depth ≤ 255) × (2240 ≤ length (now s)) ⌝ }
-    ensures { λ r. ⌜ r ≡ ends-right depth n (words-of 256 (drop 192 (now (s .entry)))) ⌝ }
+    requires { ⌜ (depth ≤ 255) × (awaiting-offset ≤ length (now s)) ⌝ }
+    ensures { λ r. ⌜ r ≡ ends-right depth n (words-of ends-limit (drop ends-offset (now (s .entry)))) ⌝ }
 {
-    if !ends_rise(&s[ENDS..], depth, n) {
+    if !ends_rise(&s[layout::ENDS_OFFSET..], depth, n) {
         return false;
     }
-    zero(s, 200 + 8 * depth, AWAITING)
+    zero(s, SECOND_END_OFFSET + 8 * depth, layout::AWAITING_OFFSET)
 }
 
 // The test of an awaiting slot.
 fn awaiting_right(s: &[u8], at: usize) -> bool
-    requires { ⌜ at + 72 ≤ length (now s) ⌝ }
-    ensures { λ r. ⌜ r ≡ awaiting-right (words-of 9 (drop at (now (s .entry)))) ⌝ }
+    requires { ⌜ at + awaiting-size ≤ length (now s) ⌝ }
+    ensures { λ r. ⌜ r ≡ awaiting-right (words-of awaiting-width (drop at (now (s .entry)))) ⌝ }
 {
     if HIGHEST < word(s, at, 0) {
         return false;
     }
-    let w = word(s, at, 7);
+    let w = word(s, at, layout::WAITERS_INDEX);
     if w == 0 {
         return false;
     }
     if MOST_READS < w {
         return false;
     }
-    word(s, at, 8) <= 1
+    if word(s, at, layout::SECOND_WAITERS_INDEX) != 0 {
+        return false;
+    }
+    word(s, at, layout::TAKEN_INDEX) <= 1
 }
 
 // Whether each of n awaiting slots is right by itself.
 fn awaiting_all(s: &[u8], n: usize) -> bool
-    requires { ⌜ (n ≤ 64) × (72 * n ≤ length (now s)) ⌝ }
-    ensures { λ r. ⌜ r ≡ all-of awaiting-right (rows 9 n (now (s .entry))) ⌝ }
+    requires { ⌜ (n ≤ 64) × (awaiting-size * n ≤ length (now s)) ⌝ }
+    ensures { λ r. ⌜ r ≡ all-of awaiting-right (rows awaiting-width n (now (s .entry))) ⌝ }
 {
     let mut i = 0;
     while i < n {
-        if !awaiting_right(s, AWAITING_BYTES * i) {
+        if !awaiting_right(s, layout::AWAITING_SIZE * i) {
             return false;
         }
         i += 1;
@@ -327,13 +302,13 @@ fn awaiting_all(s: &[u8], n: usize) -> bool
 
 // The waiters of n awaiting slots.
 fn waiters(s: &[u8], n: usize) -> u64
-    requires { ⌜ (n ≤ 64) × (72 * n ≤ length (now s)) × (all-of awaiting-right (rows 9 n (now s)) ≡ true) ⌝ }
-    ensures { λ r. ⌜ r ≡ waiters-sum (rows 9 n (now (s .entry))) ⌝ }
+    requires { ⌜ (n ≤ 64) × (awaiting-size * n ≤ length (now s)) × (all-of awaiting-right (rows awaiting-width n (now s)) ≡ true) ⌝ }
+    ensures { λ r. ⌜ r ≡ waiters-sum (rows awaiting-width n (now (s .entry))) ⌝ }
 {
     let mut w = 0;
     let mut i = 0;
     while i < n {
-        w += word(s, AWAITING_BYTES * i, 7);
+        w += word(s, layout::AWAITING_SIZE * i, layout::WAITERS_INDEX);
         i += 1;
     }
     w
@@ -341,51 +316,58 @@ fn waiters(s: &[u8], n: usize) -> u64
 
 // The awaiting slots.
 fn queue_right(s: &[u8], n: usize) -> bool
-    requires { ⌜ (n ≤ 64) × (6848 ≤ length (now s)) ⌝ }
-    ensures { λ r. ⌜ r ≡ queue-right n (words-of 576 (drop 2240 (now (s .entry)))) ⌝ }
+    requires { ⌜ (n ≤ 64) × (records-offset ≤ length (now s)) ⌝ }
+    ensures { λ r. ⌜ r ≡ queue-right n (words-of awaiting-table (drop awaiting-offset (now (s .entry)))) ⌝ }
 {
-    if !awaiting_all(&s[AWAITING..], n) {
+    if !awaiting_all(&s[layout::AWAITING_OFFSET..], n) {
         return false;
     }
-    if !rises(&s[AWAITING..], AWAITING_BYTES, 0, n) {
+    if !rises(&s[layout::AWAITING_OFFSET..], layout::AWAITING_SIZE, 0, n) {
         return false;
     }
-    zero(s, AWAITING + AWAITING_BYTES * n, RECORDS)
+    zero(
+        s,
+        layout::AWAITING_OFFSET + layout::AWAITING_SIZE * n,
+        layout::RECORDS_OFFSET,
+    )
 }
 
 // The awaiting slots and the read totals.
 pub fn reads_right(s: &[u8], n: usize) -> bool
-    requires { ⌜ (n ≤ 64) × (6848 ≤ length (now s)) ⌝ }
-    ensures { λ r. ⌜ r ≡ reads-right n (words-of 24 (now (s .entry))) (words-of 576 (drop 2240 (now (s .entry)))) ⌝ }
+    requires { ⌜ (n ≤ 64) × (records-offset ≤ length (now s)) ⌝ }
+    ensures { λ r. ⌜ r ≡ reads-right n (words-of header-width (now (s .entry))) (words-of awaiting-table (drop awaiting-offset (now (s .entry)))) ⌝ }
 {
     if !queue_right(s, n) {
         return false;
     }
-    totals_right(s, waiters(&s[AWAITING..], n), n as u64)
+    totals_right(s, waiters(&s[layout::AWAITING_OFFSET..], n), n as u64)
 }
 
 // The test of a record by itself.
 fn record_right(s: &[u8], at: usize, number: u64) -> bool
-    requires { ⌜ at + 104 ≤ length (now s) ⌝ }
-    ensures { λ r. ⌜ r ≡ record-right number (words-of 13 (drop at (now (s .entry)))) ⌝ }
+    requires { ⌜ at + record-size ≤ length (now s) ⌝ }
+    ensures { λ r. ⌜ r ≡ record-right number (words-of record-width (drop at (now (s .entry)))) ⌝ }
 {
     if HIGHEST < word(s, at, 0) {
         return false;
     }
-    if !normal_words(s, at + 64) {
+    if !normal_words(s, at + layout::HAS_OFFSET) {
         return false;
     }
-    word(s, at, 7) <= number
+    if word(s, at, layout::SECOND_USE_INDEX) != 0 {
+        return false;
+    }
+    word(s, at, layout::LAST_USE_INDEX) <= number
 }
 
 // Whether each of n records is right by itself.
 fn records_all(s: &[u8], n: usize, number: u64) -> bool
-    requires { ⌜ 104 * n ≤ length (now s) ⌝ }
-    ensures { λ r. ⌜ r ≡ all-of (record-right number) (rows 13 n (now (s .entry))) ⌝ }
+    requires { ⌜ record-size * n ≤ length (now s) ⌝ }
+    ensures { λ r. ⌜ r ≡ all-of (record-right number) (rows record-width n (now (s .entry))) ⌝ }
 {
     let mut i = 0;
     while i < n {
-        if !record_right(s, RECORD_BYTES * i, number) {
+        if !record_right(s, layout::RECORD_SIZE * i, number) {
             return false;
         }
         i += 1;
@@ -395,46 +377,51 @@ fn records_all(s: &[u8], n: usize, number: u64) -> bool
 
 // The record area of a capacity.
 fn area_right(s: &[u8], capacity: usize, n: usize, number: u64) -> bool
-    requires { ⌜ (n ≤ capacity) × (capacity ≤ 4096) × (6848 + 104 * capacity ≤ length (now s)) ⌝ }
-    ensures { λ r. ⌜ r ≡ area-right number n (words-of (13 * capacity) (drop 6848 (now (s .entry)))) ⌝ }
+    requires { ⌜ (n ≤ capacity) × (capacity ≤ 4096) × (records-offset + record-size * capacity ≤ length (now s)) ⌝ }
+    ensures { λ r. ⌜ r ≡ area-right number n (words-of (record-width * capacity) (drop records-offset (now (s .entry)))) ⌝ }
 {
-    if !records_all(&s[RECORDS..], n, number) {
+    if !records_all(&s[layout::RECORDS_OFFSET..], n, number) {
         return false;
     }
     zero(
         s,
-        RECORDS + RECORD_BYTES * n,
-        RECORDS + RECORD_BYTES * capacity,
+        layout::RECORDS_OFFSET + layout::RECORD_SIZE * n,
+        layout::RECORDS_OFFSET + layout::RECORD_SIZE * capacity,
     )
 }
 
 // Whether each layer and the top rise, of the layer ends' bytes and the records' bytes.
 fn layers_rise(ends: &[u8], s: &[u8], depth: usize, n: usize) -> bool
-    requires { ⌜ (depth ≤ 255) × (2048 ≤ length (now ends)) × (104 * n ≤ length (now s)) ⌝ }
-    requires { ⌜ ends-rise n 0 (take (suc depth) (words-of 256 (now ends))) ≡ true ⌝ }
-    ensures { λ r. ⌜ r ≡ layers-rise 0 (take (suc depth) (words-of 256 (now (ends .entry)))) (rows 13 n (now (s .entry))) ⌝ }
+    requires { ⌜ (depth ≤ 255) × (ends-size ≤ length (now ends)) × (record-size * n ≤ length (now s)) ⌝ }
+    requires { ⌜ ends-rise n 0 (take (suc depth) (words-of ends-limit (now ends))) ≡ true ⌝ }
+    ensures { λ r. ⌜ r ≡ layers-rise 0 (take (suc depth) (words-of ends-limit (now (ends .entry)))) (rows record-width n (now (s .entry))) ⌝ }
 {
     let mut from = 0;
     let mut k = 0;
     while k < depth + 1 {
         let e = word(ends, 0, k) as usize;
-        if !rises(s, RECORD_BYTES, from, e) {
+        if !rises(s, layout::RECORD_SIZE, from, e) {
             return false;
         }
         from = e;
         k += 1;
     }
-    rises(s, RECORD_BYTES, from, n)
+    rises(s, layout::RECORD_SIZE, from, n)
 }
 
 // The records by themselves and in their layers.
 pub fn records_right(s: &[u8], capacity: usize, depth: usize, n: usize, number: u64) -> bool
-    requires { ⌜ (n ≤ capacity) × (capacity ≤ 4096) × (6848 + 104 * capacity ≤ length (now s)) × (depth ≤ 255) ⌝ }
-    requires { ⌜ ends-rise n 0 (take (suc depth) (words-of 256 (drop 192 (now s)))) ≡ true ⌝ }
-    ensures { λ r. ⌜ r ≡ records-right number depth n (words-of 256 (drop 192 (now (s .entry)))) (words-of (13 * capacity) (drop 6848 (now (s .entry)))) ⌝ }
+    requires { ⌜ (n ≤ capacity) × (capacity ≤ 4096) × (records-offset + record-size * capacity ≤ length (now s)) × (depth ≤ 255) ⌝ }
+    requires { ⌜ ends-rise n 0 (take (suc depth) (words-of ends-limit (drop ends-offset (now s)))) ≡ true ⌝ }
+    ensures { λ r. ⌜ r ≡ records-right number depth n (words-of ends-limit (drop ends-offset (now (s .entry)))) (words-of (record-width * capacity) (drop records-offset (now (s .entry)))) ⌝ }
 {
     if !area_right(s, capacity, n, number) {
         return false;
     }
-    layers_rise(&s[ENDS..], &s[RECORDS..], depth, n)
+    layers_rise(
+        &s[layout::ENDS_OFFSET..],
+        &s[layout::RECORDS_OFFSET..],
+        depth,
+        n,
+    )
 }

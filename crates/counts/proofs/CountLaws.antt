@@ -8,6 +8,7 @@ use native.Mathlib.Omega.{arith}
 use lib.Dec.{leb, ltb}
 use lib.ListN.{length, getD}
 use borrow.Author.Tests.{ltb-true, ltb-false, le-leb, lt-leb}
+use Rattle.layout.specs.Layout.{record-size}
 use Rattle.model.specs.declared.delta_snapshot.Retention.{Retention}
 use Rattle.model.specs.Slots.{Value, LastUse, serves}
 use Rattle.model.specs.Layers.{Content, use-only, valued, Record, Layer, last-use-of, value-of, or-else, max-option, is-some, resolved-through-policy}
@@ -15,8 +16,9 @@ use Rattle.model.proofs.SlotLaws.{split}
 use Rattle.image.specs.Area.{records-of}
 use Rattle.order.specs.Index.{numbers, no-record, up-from, Ordered}
 use Rattle.order.proofs.RecordLaws.{Bytes}
-use Rattle.rules.specs.Rules.{group, newest-value, freshest, use-of, has-value, oldest-use}
-use Rattle.rules.proofs.WalkLaws.{along, walk}
+use Rattle.order.specs.Walk.{use-of, has-value}
+use Rattle.rules.specs.Rules.{group, newest-value, freshest, oldest-use}
+use Rattle.order.proofs.WalkLaws.{along, walk}
 use Rattle.rules.proofs.GroupLaws.{use-of-valued}
 use Rattle.rules.proofs.RuleLaws.{or-zero, serves-oldest}
 use Rattle.counts.specs.Counts.{held-in, live-in}
@@ -78,7 +80,7 @@ pub served-any : (least low : ℕ) (any : Bool) → any ≡ true → leb least l
 served-any least low any e = rw e (split (ltb low least) (λ d. rw d (lt-leb least low (ltb-true low least d))) (λ d. rw d (le-leb least low (ltb-false low least d))))
 
 -- The two walks.
-module _ (n : ℕ) (s ix : List ℕ) (b : Bytes s) (h : n * 104 ≤ length s) (o : Ordered (numbers n s) (up-from 0 n) ix) where
+module _ (n : ℕ) (s ix : List ℕ) (b : Bytes s) (h : n * record-size ≤ length s) (o : Ordered (numbers n s) (up-from 0 n) ix) where
   pub held-say : walk (sees (records-of n s)) unseen (λ a. a .any) (numbers n s) unseen ix ≡ held-in (records-of n s)
   unfolding held-in
   held-say =

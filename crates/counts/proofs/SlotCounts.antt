@@ -5,6 +5,7 @@ use mathlib.Core.List.{List, [], _∷_, map}
 use Prim.Native.Nat.{ℕ, suc, _*_, _≤_, _<_}
 use native.Mathlib.Omega.{arith}
 use lib.ListN.{length, getD}
+use Rattle.layout.specs.Layout.{record-size}
 use Rattle.model.specs.declared.delta_snapshot.Slot.{Slot}
 use Rattle.model.specs.Slots.{slot-words, slot-eqb, mem}
 use Rattle.model.specs.Layers.{Record, Layer, slots, count-distinct}
@@ -16,8 +17,8 @@ use Rattle.order.specs.Index.{number-of, slot-number, numbers, no-record, up-fr
 use Rattle.order.proofs.NumberLaws.{slot-eqb-number}
 use Rattle.order.proofs.RecordLaws.{Bytes, length-records-of, record-at}
 use Rattle.rules.specs.Rules.{group}
-use Rattle.rules.proofs.CountLaws as by-number
-use Rattle.rules.proofs.WalkLaws.{along, walk, number-group, walk-groups}
+use Rattle.order.proofs.CountLaws as by-number
+use Rattle.order.proofs.WalkLaws.{along, walk, number-group, walk-groups}
 use Rattle.rules.proofs.RuleLaws.{fit-record}
 
 -- Counting distinct slots ------------------------------------------------------------------------------------------
@@ -79,13 +80,13 @@ unfolding slots
 fits-from [] f = fit-none
 fits-from (r ∷ rs) f = fit-more (f 0 (omega arith)) (fits-from rs (λ k h. f (suc k) (omega arith)))
 
-pub records-fit : (n : ℕ) (s : List ℕ) → Bytes s → n * 104 ≤ length s → AllFit (slots (records-of n s))
+pub records-fit : (n : ℕ) (s : List ℕ) → Bytes s → n * record-size ≤ length s → AllFit (slots (records-of n s))
 records-fit n s b h =
     let l : length (records-of n s) ≡ n = length-records-of n s in
     fits-from (records-of n s) (λ k g. let i : k < n = omega arith in rw (record-at n k s i) (fit-record k s b (omega arith)))
 
 -- THE LAW: a walk over an index counts the distinct slots whose records, as they stand, pass.
-pub walk-slots : {A : Type 0} (g : A → Record → A) (z : A) (t : A → Bool) (p : Slot → Bool) (n : ℕ) (s ix : List ℕ) → Bytes s → n * 104 ≤ length s → Ordered (numbers n s) (up-from 0 n) ix
+pub walk-slots : {A : Type 0} (g : A → Record → A) (z : A) (t : A → Bool) (p : Slot → Bool) (n : ℕ) (s ix : List ℕ) → Bytes s → n * record-size ≤ length s → Ordered (numbers n s) (up-from 0 n) ix
     → ((u : Slot) → mem u (slots (records-of n s)) ≡ true → t (along g z (group u (records-of n s))) ≡ p u)
     → walk (λ a i. g a (getD (records-of n s) i no-record)) z t (numbers n s) z ix ≡ count-distinct p (slots (records-of n s))
 unfolding numbers

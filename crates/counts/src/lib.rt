@@ -5,6 +5,7 @@ ghost use mathlib.Core.Bool.{not, _&&_};
 ghost use Prim.Native.Nat.{_*_, _≤_};
 ghost use lib.Dec.{ltb};
 ghost use lib.ListN.{length};
+ghost use Rattle.layout.specs.Layout.{record-size};
 ghost use Rattle.image.specs.Area.{records-of};
 ghost use Rattle.order.specs.Index.{numbers, Ordered, up-from};
 ghost use Rattle.counts.specs.Counts.{held-in, live-in};
@@ -27,7 +28,7 @@ pub fn served(least: u64, any: bool, low: u64) -> bool
 
 // Both counts, by the index of the records.
 fn walk(s: &[u8], n: usize, retention: Retention, number: u64, ix: &[usize]) -> Counts
-    requires { ⌜ (n * 104 ≤ length (now s)) × Ordered (numbers n (now s)) (up-from 0 n) (now ix) ⌝ }
+    requires { ⌜ (n * record-size ≤ length (now s)) × Ordered (numbers n (now s)) (up-from 0 n) (now ix) ⌝ }
     ensures { λ r. ⌜ (r .held ≡ held-in (records-of n (now (s .entry)))) × (r .live ≡ live-in retention number (records-of n (now (s .entry)))) ⌝ }
 {
     let least = rules::oldest(retention, number);
@@ -38,11 +39,11 @@ fn walk(s: &[u8], n: usize, retention: Retention, number: u64, ix: &[usize]) -> 
     let mut j = 0;
     while j < ix.len() {
         let i = ix[j];
-        any = rules::either(any, rules::valued(s, n, i));
-        low = rules::larger(low, rules::last_use(s, n, i));
-        if rules::ends(s, n, ix, j) {
-            held += rules::bit(any);
-            live += rules::bit(served(least, any, low));
+        any = order::either(any, order::valued(s, n, i));
+        low = order::larger(low, order::last_use(s, n, i));
+        if order::ends(s, n, ix, j) {
+            held += order::bit(any);
+            live += order::bit(served(least, any, low));
             any = false;
             low = 0;
         }
@@ -53,29 +54,11 @@ fn walk(s: &[u8], n: usize, retention: Retention, number: u64, ix: &[usize]) -> 
 
 // Held and live at `number` of the n records that s begins with.
 pub fn held_and_live(s: &[u8], n: usize, retention: Retention, number: u64) -> Counts
-    requires { ⌜ (n * 104 ≤ length (now s)) × (n ≤ 4096) ⌝ }
+    requires { ⌜ (n * record-size ≤ length (now s)) × (n ≤ 4096) ⌝ }
     ensures { λ r. ⌜ (r .held ≡ held-in (records-of n (now (s .entry)))) × (r .live ≡ live-in retention number (records-of n (now (s .entry)))) ⌝ }
 {
     let mut a = [0usize; 4096];
     let mut b = [0usize; 4096];
     order::order(s, n, &mut a[0..n], &mut b[0..n]);
     walk(s, n, retention, number, &b[0..n])
-}
-
-// Held (`snapshot_len`): how many distinct slots of the n records that s begins with have a value.
-pub fn held(s: &[u8], n: usize) -> usize
-    requires { ⌜ (n * 104 ≤ length (now s)) × (n ≤ 4096) ⌝ }
-    ensures { λ r. ⌜ r ≡ held-in (records-of n (now (s .entry))) ⌝ }
-{
-    let c = held_and_live(s, n, Retention::Unbounded, 0);
-    c.held
-}
-
-// Live (`live_len`): how many distinct slots of the n records that s begins with are served at `number`.
-pub fn live(s: &[u8], n: usize, retention: Retention, number: u64) -> usize
-    requires { ⌜ (n * 104 ≤ length (now s)) × (n ≤ 4096) ⌝ }
-    ensures { λ r. ⌜ r ≡ live-in retention number (records-of n (now (s .entry))) ⌝ }
-{
-    let c = held_and_live(s, n, retention, number);
-    c.live
 }

@@ -11,9 +11,16 @@ use Rattle.model.specs.Numbers.{be, Bytes}
 use Rattle.model.specs.Advance.{Write}
 use Rattle.model.specs.Entries.{u256-at, slot-of, write-of, chunks, slot-bytes, first-slots}
 use Rattle.model.proofs.EntryLaws.{bytes-drop, ValueFits, AddressFits, SlotFits, value-at-fits, address-of-fits, length-slot, value-back, slot-back, Each, each-none, each-more, entries-back}
-use Rattle.final_writes.specs.FinalWrites.{StorageChange, SlotChanges, AccountChanges, LentAccount, LentSlot, BalPlan, group-slots, group-accounts, accounts-of, final-change, add-write, post-states, admits, admitted-writes, admitted-reads}
-use Rattle.final_writes.specs.Lent.{entries, lent-lists, u256-bytes, write-bytes, joined, beginning-with}
-use Rattle.final_writes.proofs.Entries.{length-write-bytes}
+use Rattle.entries.specs.Bytes.{u256-bytes, write-bytes}
+use Rattle.entries.specs.Lists.{entries}
+use Rattle.entries.proofs.Placing.{length-write-bytes}
+use Rattle.final_change.specs.Changes.{StorageChange, final-change}
+use Rattle.bal_plan.specs.Plan.{BalPlan}
+use Rattle.bal_entries.specs.Listed.{SlotChanges, LentSlot, group-slots, add-write, post-states}
+use Rattle.bal_accounts.specs.declared.LentAccount.{LentAccount}
+use Rattle.bal_accounts.specs.Accounts.{AccountChanges, group-accounts, admits, admitted-writes, admitted-reads}
+use Rattle.final_writes.specs.FinalWrites.{accounts-of}
+use Rattle.final_writes.specs.Lent.{lent-lists, joined, beginning-with}
 
 -- Parts of lists.
 module _ {A : Type 0} {P : A → Type 0} where
@@ -71,7 +78,7 @@ accounts-grouped : {l : List LentAccount} {ss : List SlotChanges} {rs : List U25
 unfolding group-accounts
 accounts-grouped each-none g h = each-none
 accounts-grouped (each-more {x = a} f fs) g h =
-    each-more (record { address-fits = f; slots-fit = each-take (a .slot-count) g; reads-fit = each-take (a .read-count) h }) (accounts-grouped fs (each-drop (a .slot-count) g) (each-drop (a .read-count) h))
+    each-more (record { address-fits = f; slots-fit = each-take (a .slots) g; reads-fit = each-take (a .reads) h }) (accounts-grouped fs (each-drop (a .slots) g) (each-drop (a .reads) h))
 
 -- An account's writes and reads.
 module _ (a : Address) (p : AddressFits a) where

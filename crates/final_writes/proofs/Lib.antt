@@ -1,10 +1,5 @@
--- Laws of entries in bytes, of filling outputs, and of walking the lent lists.
-pub mod Highest
-pub mod Entries
-pub mod Filling
-pub mod Addresses
-pub mod SlotWalk
-pub mod ReadWalk
-pub mod AccountWalk
+-- Laws of counts that agree, of filled outputs, of entries read back, and of outcomes.
+pub mod Agreeing
+pub mod Filled
 pub mod Fits
 pub mod Outcomes

@@ -17,25 +17,26 @@ use Rattle.model.specs.Entries.{u256-at, write-of, chunks, slot-bytes, first-sl
 use Rattle.model.proofs.SlotLaws.{split}
 use Rattle.model.proofs.EntryLaws.{length-slot}
 use Rattle.words.specs.Parts.{placed}
-use Rattle.final_writes.specs.declared.Cap.{Cap}
-use Rattle.final_writes.specs.declared.Cap.the-variants.{Unlimited, AtMost}
+use Rattle.entries.specs.Bytes.{write-bytes}
+use Rattle.entries.proofs.Lists.{map-entries, length-entries}
+use Rattle.entries.proofs.Placing.{length-write-bytes}
+use Rattle.bal_plan.specs.declared.Cap.{Cap}
+use Rattle.bal_plan.specs.Plan.{BalPlan, within-cap, cap-of, plan-of, limit-of}
+use Rattle.bal_plan.proofs.Caps.{within-is}
+use Rattle.bal_entries.specs.Listed.{SlotChanges, sum, read-slot}
+use Rattle.bal_entries.specs.Filling.{Filled, fill}
+use Rattle.bal_entries.proofs.Filling.{fill-found}
+use Rattle.bal_accounts.specs.declared.LentAccount.{LentAccount}
+use Rattle.bal_accounts.specs.declared.Walk.{Walk}
+use Rattle.bal_accounts.specs.Accounts.{AccountChanges, group-accounts, admitted-writes, admitted-reads, filtered-entries, read-account}
+use Rattle.bal_accounts.specs.Walking.{start, WalkFits, AccountsSeeded}
 use Rattle.final_writes.specs.declared.FinalWritesAnswer.the-variants.{No, Seeded}
-use Rattle.final_writes.specs.declared.Walk.{Walk}
-use Rattle.final_writes.specs.FinalWrites.{SlotChanges, AccountChanges, LentAccount, LentLists, BalPlan, group-accounts, accounts-of, admitted-writes, admitted-reads, filtered-entries, within-cap, seed-from-accounts, sum, counts-differ, outputs-too-short, final-writes-refusal, FinalWrites, refuse, seeded, conclude, final-writes}
-use Rattle.final_writes.specs.Lent.{read-slot, read-account, lent-lists, cap-of, plan-of, joined, beginning-with, write-bytes, lent-final-writes, Answers}
-use Rattle.final_writes.specs.Walking.{limit-of, Filled, fill, start, WalkFits, AccountsSeeded, counts-of}
-use Rattle.final_writes.proofs.Entries.{map-entries, agree, length-entries, length-write-bytes}
+use Rattle.final_writes.specs.FinalWrites.{LentLists, accounts-of, seed-from-accounts, counts-differ, outputs-too-short, final-writes-refusal, FinalWrites, refuse, seeded, conclude, final-writes}
+use Rattle.final_writes.specs.Lent.{lent-lists, joined, beginning-with, lent-final-writes, Answers}
+use Rattle.final_writes.specs.Counts.{counts-of}
+use Rattle.final_writes.proofs.Agreeing.{agree}
 use Rattle.final_writes.proofs.Fits.{each-take, admitted-writes-fit, admitted-reads-fit, writes-back, reads-back}
-use Rattle.final_writes.proofs.Filling.{fill-found, fill-is}
-
--- Caps ------------------------------------------------------------------------------------------------
-
-pub within-is : (c : Cap) (n : ℕ) → n ≤ 18446744073709551615 → within-cap (cap-of c) n ≡ min n (limit-of c)
-within-is Unlimited n h = omega arith
-within-is (AtMost k) n h =
-    split (ltb k n)
-    (λ e. ap (λ (t : Bool). cond t k n) e ∙ omega (arith, ltb-true k n e))
-    (λ e. ap (λ (t : Bool). cond t k n) e ∙ omega (arith, ltb-false k n e))
+use Rattle.final_writes.proofs.Filled.{fill-is}
 
 take-min : {A : Type 0} (l : List A) (k : ℕ) → take k l ≡ take (min (length l) k) l
 take-min {A} l k =
@@ -76,7 +77,7 @@ filled-under {A} g w wide c xs n out out' h small e =
 length-group : (l : List LentAccount) (ss : List SlotChanges) (rs : List U256) → length (group-accounts l ss rs) ≡ length l
 unfolding group-accounts
 length-group [] ss rs = refl
-length-group (a ∷ l) ss rs = ap suc (length-group l (drop (a .slot-count) ss) (drop (a .read-count) rs))
+length-group (a ∷ l) ss rs = ap suc (length-group l (drop (a .slots) ss) (drop (a .reads) rs))
 
 module _ (accounts slots changes reads plan wo ro : List ℕ) (max-writes max-reads : Cap) where
   abbrev the-plan : BalPlan
@@ -96,9 +97,9 @@ module _ (accounts slots changes reads plan wo ro : List ℕ) (max-writes max-re
   start-fits e =
       let all-agree = agree accounts slots changes reads e in
       record {
-        slots-are = zero-add _ ∙ ap sum (map-entries (λ a. a .slot-count) read-account 36 (length accounts / 36) accounts) ∙ eqb-true _ _ (all-agree .0);
+        slots-are = zero-add _ ∙ ap sum (map-entries (λ a. a .slots) read-account 36 (length accounts / 36) accounts) ∙ eqb-true _ _ (all-agree .0);
         changes-are = zero-add _ ∙ ap sum (map-entries (λ a. a .change-count) read-slot 40 (length slots / 40) slots) ∙ eqb-true _ _ (all-agree .1);
-        reads-are = zero-add _ ∙ ap sum (map-entries (λ a. a .read-count) read-account 36 (length accounts / 36) accounts) ∙ eqb-true _ _ (all-agree .2);
+        reads-are = zero-add _ ∙ ap sum (map-entries (λ a. a .reads) read-account 36 (length accounts / 36) accounts) ∙ eqb-true _ _ (all-agree .2);
         few-writes = omega arith;
         few-reads = omega arith;
         few-filtered = omega arith;

@@ -1,5 +1,4 @@
 -- Final writes: a block access list under a plan, and the bytes that it is lent in.
 pub mod FinalWrites
-pub mod Eip7928
 pub mod Lent
-pub mod Walking
+pub mod Counts

@@ -14,8 +14,9 @@ use Rattle.model.specs.Layers.{Content, use-only, valued, Record, Layer, last-u
 use Rattle.model.specs.Advance.{compact-slot, lapsed}
 use Rattle.model.proofs.SlotLaws.{split, not-both, slot-eqb-true}
 use Rattle.order.specs.Index.{no-record}
-use Rattle.rules.specs.Rules.{group, newest-value, freshest, use-of, has-value, oldest-use}
-use Rattle.rules.proofs.WalkLaws.{along}
+use Rattle.order.specs.Walk.{use-of, has-value}
+use Rattle.rules.specs.Rules.{group, newest-value, freshest, oldest-use}
+use Rattle.order.proofs.WalkLaws.{along}
 use Rattle.rules.proofs.GroupLaws.{or-else-assoc, use-of-valued}
 use Rattle.rules.proofs.RuleLaws.{or-zero, serves-oldest}
 use Rattle.counts.proofs.CountLaws.{served, any-step, low-step}

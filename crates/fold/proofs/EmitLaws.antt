@@ -10,6 +10,7 @@ use lib.Dec.{eqb}
 use lib.ListN.{length, drop, getD, length-map, drop-of-length-le, List·getD-map}
 use lib.Seq.{drop-cons}
 use borrow.Author.Tests.{eq-eqb, ne-eqb, lt-ltb}
+use Rattle.layout.specs.Layout.{record-size}
 use Rattle.model.specs.declared.delta_snapshot.Slot.{Slot}
 use Rattle.model.specs.declared.delta_snapshot.Retention.{Retention}
 use Rattle.model.specs.Slots.{Value, LastUse, slot-words, slot-ltb, mem, serves}
@@ -27,9 +28,9 @@ use Rattle.order.proofs.MergeLaws.{pick-above, all-ordered}
 use Rattle.order.proofs.NumberLaws.{slot-eqb-number, slot-ltb-number}
 use Rattle.order.proofs.RecordLaws.{Bytes, length-records-of, record-at}
 use Rattle.rules.specs.Rules.{group, newest-value, freshest}
-use Rattle.rules.specs.Walk.{last-of}
-use Rattle.rules.proofs.CountLaws as by-number
-use Rattle.rules.proofs.WalkLaws.{along, begun, begun-same, last-above, next-equal, same-members, number-group, pick-group, along-map}
+use Rattle.order.specs.Walk.{last-of}
+use Rattle.order.proofs.CountLaws as by-number
+use Rattle.order.proofs.WalkLaws.{along, begun, begun-same, last-above, next-equal, same-members, number-group, pick-group, along-map}
 use Rattle.rules.proofs.RuleLaws.{fit-record}
 use Rattle.counts.proofs.SlotCounts.{AllFit, fit-none, fit-more, fit-member, mem-number, numbers-are, group-number, records-fit}
 use Rattle.fold.specs.Fold.{folded-slots, folded}
@@ -175,7 +176,7 @@ fit-met rs [] nil = fit-none
 fit-met rs (x ∷ xs) (add p a) = fit-more p (fit-met rs xs a)
 
 -- THE LAW: a walk over an index that gives, of a slot's records as they stand, what a fold leaves of the slot, gives the fold's layer.
-pub fold-says : (R : Retention) (now : ℕ) {A : Type 0} (g : A → Record → A) (z : A) (e : A → Layer) (n : ℕ) (s ix : List ℕ) → Bytes s → n * 104 ≤ length s → Ordered (numbers n s) (up-from 0 n) ix
+pub fold-says : (R : Retention) (now : ℕ) {A : Type 0} (g : A → Record → A) (z : A) (e : A → Layer) (n : ℕ) (s ix : List ℕ) → Bytes s → n * record-size ≤ length s → Ordered (numbers n s) (up-from 0 n) ix
     → ((u : Slot) → e (along g z (group u (records-of n s))) ≡ left-of R now (records-of n s) u)
     → emit (λ a i. g a (getD (records-of n s) i no-record)) z e (numbers n s) z ix ≡ folded R now (records-of n s)
 unfolding numbers folded

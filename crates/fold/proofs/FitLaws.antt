@@ -5,6 +5,7 @@ use mathlib.Core.Option.{Option, some, none}
 use Prim.Native.Nat.{ℕ, suc, _*_, _^_, _≤_, _<_, max}
 use native.Mathlib.Omega.{arith}
 use lib.ListN.{length}
+use Rattle.layout.specs.Layout.{record-size}
 use Rattle.model.specs.declared.delta_snapshot.Slot.{Slot}
 use Rattle.model.specs.declared.delta_snapshot.Retention.{Retention}
 use Rattle.model.specs.Slots.{Value, LastUse, slot-words, u256-words, slot-eqb, slot-ltb, serves}
@@ -64,7 +65,7 @@ use-more (valued u v) (fit-cons h f) (use-fits {u = w} k) = use-fits {u = max w 
 
 value-more : (c : Content) {o : Option Value} → Fit (content-words c) → ValueFits o → ValueFits (or-else o (value-of (some c)))
 value-more (use-only u) f no-value = no-value
-value-more (valued u v) (fit-cons h (fit-cons k f)) no-value = value-fits f
+value-more (valued u v) (fit-cons h (fit-cons k f)) no-value = value-fits (fit-left (u256-words v) (0 ∷ []) f)
 value-more c f (value-fits k) = value-fits k
 
 freshest-fits : {g : Layer} → RecordsFit g → UseFits (freshest g)
@@ -83,7 +84,7 @@ module _ (R : Retention) (now : ℕ) where
   slot-fit s l p (use-fits a) no-value k = k
   slot-fit s l p (use-fits {u = u} a) (value-fits {v = v} b) k =
       split (serves R u now)
-      (λ e. rw e (fit-insert s (valued u v) l (fit-append p (fit-cons a (fit-cons {x = 1} (omega arith) b))) k))
+      (λ e. rw e (fit-insert s (valued u v) l (fit-append p (fit-cons a (fit-cons {x = 1} (omega arith) (fit-append b (fit-cons {x = 0} (omega arith) fit-nil))))) k))
       (λ e. rw e k)
 
   slots-folded-fit : (rs : Layer) (ss : List Slot) → RecordsFit rs → AllFit ss → Fit (all-record-words (folded-slots R now rs ss))
@@ -97,7 +98,7 @@ module _ (R : Retention) (now : ℕ) where
   folded-fit rs f = let g : RecordsFit rs = each-fits rs f in slots-folded-fit rs (slots rs) g (slots-fit g)
 
   -- The records written are the fold's layer.
-  pub folded-back : (n : ℕ) (s out : List ℕ) → Bytes s → n * 104 ≤ length s
+  pub folded-back : (n : ℕ) (s out : List ℕ) → Bytes s → n * record-size ≤ length s
       → records-of (length (folded R now (records-of n s))) (with-records (folded R now (records-of n s)) out) ≡ folded R now (records-of n s)
   folded-back n s out b h = records-back (folded R now (records-of n s)) out (folded-fit (records-of n s) (fit-read n s b h))
 

@@ -5,6 +5,7 @@ use mathlib.Core.List.{List, _++_}
 use Prim.Native.Nat.{ℕ, _+_, _*_, _≤_, _<_}
 use native.Mathlib.Omega.{arith}
 use lib.ListN.{length, drop, getD, length-append}
+use Rattle.layout.specs.Layout.{record-size}
 use Rattle.model.specs.declared.delta_snapshot.Retention.{Retention}
 use Rattle.model.specs.Layers.{Layer}
 use Rattle.model.specs.Advance.{lapsed}
@@ -12,9 +13,10 @@ use Rattle.model.proofs.SlotLaws.{not-both}
 use Rattle.image.specs.Area.{records-of}
 use Rattle.order.specs.Index.{numbers, no-record, up-from, Ordered}
 use Rattle.order.proofs.RecordLaws.{Bytes}
-use Rattle.rules.specs.Rules.{group, freshest, has-value, oldest-use}
-use Rattle.rules.specs.Walk.{last-of}
-use Rattle.rules.proofs.WalkLaws.{walk}
+use Rattle.order.specs.Walk.{has-value}
+use Rattle.rules.specs.Rules.{group, freshest, oldest-use}
+use Rattle.order.specs.Walk.{last-of}
+use Rattle.order.proofs.WalkLaws.{walk}
 use Rattle.counts.proofs.SlotCounts.{walk-slots}
 use Rattle.counts.proofs.CountLaws.{served}
 use Rattle.fold.specs.Fold.{folded, dropped-in}
@@ -35,7 +37,7 @@ abbrev pub to-drop : ℕ → ℕ → List ℕ → Best → List ℕ → ℕ
 to-drop least n s a xs = walk (betters (records-of n s)) (begin (records-of n s)) (drops least) (numbers n s) a xs
 
 -- Over the whole index they are the fold's layer, and the number of slots that it drops.
-module _ (R : Retention) (now n : ℕ) (s ix : List ℕ) (b : Bytes s) (h : n * 104 ≤ length s) (o : Ordered (numbers n s) (up-from 0 n) ix) where
+module _ (R : Retention) (now n : ℕ) (s ix : List ℕ) (b : Bytes s) (h : n * record-size ≤ length s) (o : Ordered (numbers n s) (up-from 0 n) ix) where
   pub gives-all : to-give (oldest-use R now) n s (begin (records-of n s)) ix ≡ folded R now (records-of n s)
   gives-all = fold-says R now better (begin (records-of n s)) (gives (oldest-use R now)) n s ix b h o (λ u. gives-is R now (records-of n s) u)
 
@@ -63,7 +65,7 @@ still-valued rs false false x y e f q = not-both q refl
 -- A turn, of the layer: at the last number of a slot what is left of it is stored, at another nothing.
 module _ (least n : ℕ) (s ix : List ℕ) (a : Best) (j : ℕ) (h : j < length ix) (c d m : ℕ) (out₀ out whole : List ℕ) (b b′ : Best)
     (ea : b ≡ betters (records-of n s) a (getD ix j 0)) (few : c + length (to-give least n s a (drop j ix)) ≡ m) (inv : stored c (to-give least n s a (drop j ix)) out₀ ≡ whole) where
-  pub fold-last : b′ ≡ begin (records-of n s) → last-of (numbers n s) (drop j ix) ≡ true → Stored c d (gives least b) out₀ out → (c + 1) * 104 ≤ length out₀
+  pub fold-last : b′ ≡ begin (records-of n s) → last-of (numbers n s) (drop j ix) ≡ true → Stored c d (gives least b) out₀ out → (c + 1) * record-size ≤ length out₀
       → (d + length (to-give least n s b′ (drop (j + 1) ix)) ≡ m) × (stored d (to-give least n s b′ (drop (j + 1) ix)) out ≡ whole)
   fold-last eb q p k =
       let rs : Layer = records-of n s in

@@ -5,6 +5,7 @@ use mathlib.Core.Bool.{Bool, cond}
 use mathlib.Core.List.{List, [], _∷_, _++_}
 use mathlib.Core.Option.{some}
 use lib.ListN.{length, take, drop, set}
+use Rattle.layout.specs.Layout.{has-index, last-use-index, record-size, second-use-index}
 use Rattle.model.specs.Slots.{LastUse}
 use Rattle.model.specs.Layers.{Record, Layer, touch}
 use Rattle.image.specs.Image.{bytes-of, all-record-words}
@@ -15,7 +16,7 @@ renewed u r = record { slot = r .slot; content = touch u (some (r .content)) }
 
 -- The words of a record with another last use, and the flag of a value.
 unfoldable pub renewed-words : LastUse → List ℕ → List ℕ
-renewed-words u w = set (set w 7 u) 8 1
+renewed-words u w = set (set (set w last-use-index u) has-index 1) second-use-index 0
 
 -- What is left of a slot: its newest record with a value, with the given use, or nothing.
 abbrev pub kept : Bool → LastUse → Record → Layer
@@ -23,7 +24,7 @@ kept keep u r = cond keep (renewed u r ∷ []) []
 
 -- Bytes with records stored from record c on; what is before and after is as it was.
 unfoldable pub stored : ℕ → Layer → List ℕ → List ℕ
-stored c l s = take (c * 104) s ++ bytes-of (all-record-words l) ++ drop ((c + length l) * 104) s
+stored c l s = take (c * record-size) s ++ bytes-of (all-record-words l) ++ drop ((c + length l) * record-size) s
 
 -- Records are stored from record c on, and the next goes to place `next`.
 pub record Stored (c next : ℕ) (l : Layer) (before after : List ℕ) : Type 0 where

@@ -4,11 +4,12 @@ ghost use mathlib.Core.Path.{_≡_};
 ghost use mathlib.Core.Bool.{true, cond};
 ghost use Prim.Native.Nat.{_+_, _*_, _≤_, _<_};
 ghost use lib.ListN.{length, drop, getD};
+ghost use Rattle.layout.specs.Layout.{record-size, record-width};
 ghost use Rattle.words.specs.Parts.{placed};
 ghost use Rattle.image.specs.Image.{words-of, bytes-of};
 ghost use Rattle.image.specs.Area.{records-of, with-records};
 ghost use Rattle.order.specs.Index.{numbers, no-record, Ordered, up-from};
-ghost use Rattle.rules.specs.Rules.{has-value};
+ghost use Rattle.order.specs.Walk.{has-value};
 ghost use Rattle.fold.specs.Fold.{folded, dropped-in};
 ghost use Rattle.fold.specs.Stored.{renewed-words, kept, Stored};
 
@@ -18,36 +19,39 @@ pub struct Folded {
     pub dropped: usize,
 }
 
-// Word k of record i with the last use `used` and the flag of a value.
+// Word k of record i with the last use `used`, the flag of a value, and no second use.
 fn word(s: &[u8], i: usize, used: u64, k: usize) -> u64
-    requires { ⌜ (i * 104 + 104 ≤ length (now s)) × (k < 13) ⌝ }
-    ensures { λ r. ⌜ r ≡ getD (renewed-words used (words-of 13 (drop (i * 104) (now (s .entry))))) k 0 ⌝ }
+    requires { ⌜ (i * record-size + record-size ≤ length (now s)) × (k < record-width) ⌝ }
+    ensures { λ r. ⌜ r ≡ getD (renewed-words used (words-of record-width (drop (i * record-size) (now (s .entry))))) k 0 ⌝ }
 {
-    if k == 7 {
+    if k == layout::LAST_USE_INDEX {
         return used;
     }
-    if k == 8 {
+    if k == layout::HAS_INDEX {
         return 1;
     }
-    words::read_u64(s, i * 104 + k * 8)
+    if k == layout::SECOND_USE_INDEX {
+        return 0;
+    }
+    words::read_u64(s, i * layout::RECORD_SIZE + k * 8)
 }
 
 // Writes these words of record i as record c of the output.
 fn write_record(s: &[u8], i: usize, used: u64, out: &mut [u8], c: usize)
-    requires { ⌜ (i * 104 + 104 ≤ length (now s)) × ((c + 1) * 104 ≤ length (now out)) ⌝ }
-    ensures { λ _. ⌜ now (out .exit) ≡ placed (c * 104) (bytes-of (renewed-words used (words-of 13 (drop (i * 104) (now (s .entry)))))) (now (out .entry)) ⌝ }
+    requires { ⌜ (i * record-size + record-size ≤ length (now s)) × ((c + 1) * record-size ≤ length (now out)) ⌝ }
+    ensures { λ _. ⌜ now (out .exit) ≡ placed (c * record-size) (bytes-of (renewed-words used (words-of record-width (drop (i * record-size) (now (s .entry)))))) (now (out .entry)) ⌝ }
 {
     let mut k = 0;
-    while k < 13 {
+    while k < layout::RECORD_WIDTH {
         let x = word(s, i, used, k);
-        words::write_u64(out, c * 104 + k * 8, x);
+        words::write_u64(out, c * layout::RECORD_SIZE + k * 8, x);
         k += 1;
     }
 }
 
 // What is left of a slot, whose newest record with a value is record i, written as record c of the output: where the next goes.
 fn settle(s: &[u8], n: usize, i: usize, keep: bool, used: u64, out: &mut [u8], c: usize) -> usize
-    requires { ⌜ (n * 104 ≤ length (now s)) × (i < n) × ((c + 1) * 104 ≤ length (now out)) ⌝ }
+    requires { ⌜ (n * record-size ≤ length (now s)) × (i < n) × ((c + 1) * record-size ≤ length (now out)) ⌝ }
     requires { ⌜ ((keep ≡ true) → (has-value (getD (records-of n (now s)) i no-record .content) ≡ true)) ⌝ }
     ensures { λ r. ⌜ Stored c r (kept keep used (getD (records-of n (now (s .entry))) i no-record)) (now (out .entry)) (now (out .exit)) ⌝ }
 {
@@ -76,7 +80,7 @@ fn walk(
     ix: &[usize],
     out: &mut [u8],
 ) -> Folded
-    requires { ⌜ (n * 104 ≤ length (now s)) × (length (now ix) * 104 ≤ length (now out)) × Ordered (numbers n (now s)) (up-from 0 n) (now ix) ⌝ }
+    requires { ⌜ (n * record-size ≤ length (now s)) × (length (now ix) * record-size ≤ length (now out)) × Ordered (numbers n (now s)) (up-from 0 n) (now ix) ⌝ }
     ensures { λ r. ⌜ (now (out .exit) ≡ with-records (folded retention number (records-of n (now (s .entry)))) (now (out .entry))) × (r .left ≡ length (folded retention number (records-of n (now (s .entry))))) × (r .dropped ≡ dropped-in retention number (records-of n (now (s .entry)))) ⌝ }
 {
     let least = rules::oldest(retention, number);
@@ -88,13 +92,13 @@ fn walk(
     let mut j = 0;
     while j < ix.len() {
         let i = ix[j];
-        let has = rules::valued(s, n, i);
-        any = rules::either(any, has);
-        low = rules::larger(low, rules::last_use(s, n, i));
+        let has = order::valued(s, n, i);
+        any = order::either(any, has);
+        low = order::larger(low, order::last_use(s, n, i));
         at = choose(has, i, at);
-        if rules::ends(s, n, ix, j) {
+        if order::ends(s, n, ix, j) {
             left = settle(s, n, at, counts::served(least, any, low), low, out, left);
-            dropped += rules::bit(low < least);
+            dropped += order::bit(low < least);
             any = false;
             low = 0;
             at = 0;
@@ -106,7 +110,7 @@ fn walk(
 
 // The fold of the n records that s begins with (`compact`): writes, at the beginning of the output, the one layer of each slot whose freshest use serves at `number`, with its newest value and that use.
 pub fn fold(s: &[u8], n: usize, retention: Retention, number: u64, out: &mut [u8]) -> Folded
-    requires { ⌜ (n * 104 ≤ length (now s)) × (n * 104 ≤ length (now out)) × (n ≤ 4096) ⌝ }
+    requires { ⌜ (n * record-size ≤ length (now s)) × (n * record-size ≤ length (now out)) × (n ≤ 4096) ⌝ }
     ensures { λ r. ⌜ (now (out .exit) ≡ with-records (folded retention number (records-of n (now (s .entry)))) (now (out .entry))) × (r .left ≡ length (folded retention number (records-of n (now (s .entry))))) × (r .dropped ≡ dropped-in retention number (records-of n (now (s .entry)))) ⌝ }
 {
     let mut a = [0usize; 4096];

@@ -9,6 +9,7 @@ use lib.Dec.{eqb, ltb, lit<}
 use lib.ListN.{length, take, drop, getD, replicate, take-append-drop, List·getD-append}
 use borrow.Author.Tests.{ltb-true, ltb-false}
 use lib.Seq.{drop-length, take-at, drop-at, drop-drop, drop-cons, getD-drop, getD-at}
+use Rattle.layout.specs.Layout.{awaiting-count-index, awaiting-count-offset, awaiting-index, awaiting-offset, awaiting-width, capacity-index, capacity-offset, depth-index, depth-offset, ends-index, ends-offset, hash-index, hash-offset, idle-index, idle-offset, installed-index, installed-offset, magic, max-depth-index, max-depth-offset, number-index, number-offset, record-size, record-width, records-count-index, records-count-offset, records-index, records-offset, retention-index, retention-offset, totals-index, totals-offset}
 use Rattle.model.specs.declared.storage_memo.BlockHash.{BlockHash}
 use Rattle.model.specs.declared.storage_memo.BlockHash.the-variants.{Unknown, Known}
 use Rattle.model.specs.declared.delta_snapshot.Retention.{Retention}
@@ -19,7 +20,7 @@ use Rattle.model.specs.Store.{Config, Generation, Store, chain}
 use Rattle.model.proofs.SlotLaws.{split, and-left, and-right, and-intro}
 use Rattle.image.specs.WellFormed.{slot-fits, content-fits, every, rising, content-ok, chain-ok, installed-ok, well-formed}
 use Rattle.model.specs.Refusals.{store-words}
-use Rattle.image.specs.Image.{words-of, retention-words, hash-words, totals-words, record-words, all-record-words, all-pending-words, flat-records, layer-ends, padded, magic, config-words, generation-words, table-words, installed-words, image-words, read-record, read-pending, entries, read-hash, decode}
+use Rattle.image.specs.Image.{words-of, retention-words, hash-words, totals-words, record-words, all-record-words, all-pending-words, flat-records, layer-ends, padded, config-words, generation-words, table-words, installed-words, image-words, read-record, read-pending, entries, read-hash, decode}
 use Rattle.image.specs.Area.{records-of, pending-of, layers-below}
 use Rattle.image.specs.Lent.{layer-of}
 use Rattle.image.proofs.Entries.{length-records, read-records, length-flat, length-ends, length-pending, read-pendings}
@@ -73,7 +74,7 @@ unfolding flat-records
 flat-split p l ls = flat-append p (l ∷ ls) ∙ append-assoc (flat-records ls) l (flat-records p)
 
 layer-words : (p : List Layer) (l : Layer) (ls : List Layer) (rest : List ℕ) →
-    take (13 * length l) (drop (13 * record-count ls) (all-record-words (flat-records (p ++ (l ∷ ls))) ++ rest)) ≡ all-record-words l
+    take (record-width * length l) (drop (record-width * record-count ls) (all-record-words (flat-records (p ++ (l ∷ ls))) ++ rest)) ≡ all-record-words l
 layer-words p l ls rest =
     let below : List ℕ = all-record-words (flat-records ls) in
     let own : List ℕ = all-record-words l in
@@ -82,13 +83,13 @@ layer-words p l ls rest =
     ap all-record-words (flat-split p l ls) ∙ words-append (flat-records ls) (l ++ flat-records p) ∙ ap (λ (x : List ℕ). below ++ x) (words-append l (flat-records p)) in
     let f : all-record-words (flat-records (p ++ (l ∷ ls))) ++ rest ≡ below ++ (own ++ (above ++ rest)) =
     ap (λ (x : List ℕ). x ++ rest) e ∙ append-assoc below (own ++ above) rest ∙ ap (λ (x : List ℕ). below ++ x) (append-assoc own above rest) in
-    let n : length below ≡ 13 * record-count ls = length-records (flat-records ls) ∙ ap (λ (k : ℕ). 13 * k) (length-flat ls) in
-    ap (λ (x : List ℕ). take (13 * length l) (drop (13 * record-count ls) x)) f
-    ∙ ap (take (13 * length l)) (drop-at below (own ++ (above ++ rest)) (13 * record-count ls) n)
-    ∙ take-at own (above ++ rest) (13 * length l) (length-records l)
+    let n : length below ≡ record-width * record-count ls = length-records (flat-records ls) ∙ ap (λ (k : ℕ). record-width * k) (length-flat ls) in
+    ap (λ (x : List ℕ). take (record-width * length l) (drop (record-width * record-count ls) x)) f
+    ∙ ap (take (record-width * length l)) (drop-at below (own ++ (above ++ rest)) (record-width * record-count ls) n)
+    ∙ take-at own (above ++ rest) (record-width * length l) (length-records l)
 
-read-layer : (l : Layer) → map read-record (entries 13 (length l) (all-record-words l)) ≡ l
-read-layer l = ap (λ (w : List ℕ). map read-record (entries 13 (length l) w)) (sym (append-nil (all-record-words l))) ∙ read-records l []
+read-layer : (l : Layer) → map read-record (entries record-width (length l) (all-record-words l)) ≡ l
+read-layer l = ap (λ (w : List ℕ). map read-record (entries record-width (length l) w)) (sym (append-nil (all-record-words l))) ∙ read-records l []
 
 -- The number of records of some layers is at least that of one and those below it.
 count-split : (p : List Layer) (l : Layer) (ls : List Layer) → record-count ls + length l ≤ record-count (p ++ (l ∷ ls))
@@ -222,21 +223,21 @@ word at b = num (take 8 (drop at b))
 -- What bytes that are the store st say, word by word of what the open set.
 pub record StoreBytes (b : List ℕ) (st : Store) : Type 0 where
   pub right : well-formed st ≡ true
-  pub long : 6848 + 104 * st .config .capacity ≤ length b
+  pub long : records-offset + record-size * st .config .capacity ≤ length b
   pub capacity-limit : st .config .capacity ≤ 4096
   pub depth-limit : st .config .max-depth ≤ 255
   pub words : (i : ℕ) → i < store-words (st .config .capacity) → word (8 * i) b ≡ getD (image-words st) i 0
   pub magic-word : word 0 b ≡ magic
-  pub capacity-word : word 8 b ≡ st .config .capacity
-  pub depth-limit-word : word 16 b ≡ st .config .max-depth
-  pub retention-word : word 24 b ≡ getD (retention-words (st .config .retention)) 0 0
-  pub idle-word : word 32 b ≡ getD (retention-words (st .config .retention)) 1 0
-  pub none-word : st .installed ≡ none → word 40 b ≡ 0
+  pub capacity-word : word capacity-offset b ≡ st .config .capacity
+  pub depth-limit-word : word max-depth-offset b ≡ st .config .max-depth
+  pub retention-word : word retention-offset b ≡ getD (retention-words (st .config .retention)) 0 0
+  pub idle-word : word idle-offset b ≡ getD (retention-words (st .config .retention)) 1 0
+  pub none-word : st .installed ≡ none → word installed-offset b ≡ 0
 
 -- A layer whose records stand from record number `from` on.
 pub record Area (b : List ℕ) (from : ℕ) (l : Layer) : Type 0 where
-  pub room : 6848 + 104 * (from + length l) ≤ length b
-  pub reads : records-of (length l) (drop (6848 + 104 * from) b) ≡ l
+  pub room : records-offset + record-size * (from + length l) ≤ length b
+  pub reads : records-of (length l) (drop (records-offset + record-size * from) b) ≡ l
   pub rises : rising l ≡ true
   pub fits : fitting l ≡ true
   pub narrow : every (λ s c. ltb (s .address .w0) (2 ^ 32)) l ≡ true
@@ -245,17 +246,17 @@ pub record Area (b : List ℕ) (from : ℕ) (l : Layer) : Type 0 where
 pub record GenerationBytes (b : List ℕ) (st : Store) (g : Generation) : Type 0 where
   pub store : StoreBytes b st
   pub facts : GenerationFacts (st .config) g
-  pub installed-word : word 40 b ≡ 1
-  pub number-word : word 48 b ≡ g .anchor .number
-  pub hash-word : (j : ℕ) → j < 5 → word (56 + 8 * j) b ≡ getD (hash-words (g .anchor .hash)) j 0
-  pub depth-word : word 96 b ≡ pred (length (g .base))
-  pub records-word : word 104 b ≡ record-count (chain g)
-  pub pending-word : word 112 b ≡ length (g .pending)
-  pub totals-word : (j : ℕ) → j < 9 → word (120 + 8 * j) b ≡ getD (totals-words (g .totals)) j 0
-  pub end-word : (k : ℕ) → k < length (g .base) → word (192 + 8 * k) b ≡ record-count (layers-below (suc k) (g .base))
+  pub installed-word : word installed-offset b ≡ 1
+  pub number-word : word number-offset b ≡ g .anchor .number
+  pub hash-word : (j : ℕ) → j < 5 → word (hash-offset + 8 * j) b ≡ getD (hash-words (g .anchor .hash)) j 0
+  pub depth-word : word depth-offset b ≡ pred (length (g .base))
+  pub records-word : word records-count-offset b ≡ record-count (chain g)
+  pub pending-word : word awaiting-count-offset b ≡ length (g .pending)
+  pub totals-word : (j : ℕ) → j < 9 → word (totals-offset + 8 * j) b ≡ getD (totals-words (g .totals)) j 0
+  pub end-word : (k : ℕ) → k < length (g .base) → word (ends-offset + 8 * k) b ≡ record-count (layers-below (suc k) (g .base))
   pub layer : (k : ℕ) (l : Layer) → layers-below (suc k) (g .base) ≡ l ∷ layers-below k (g .base) → Area b (record-count (layers-below k (g .base))) l
   pub top : Area b (record-count (g .base)) (g .top)
-  pub awaiting : pending-of (length (g .pending)) (drop 2240 b) ≡ g .pending
+  pub awaiting : pending-of (length (g .pending)) (drop awaiting-offset b) ≡ g .pending
 
 pub store-bytes : (b : List ℕ) (st : Store) → decode b ≡ some st → StoreBytes b st
 store-bytes b st e =
@@ -263,7 +264,7 @@ store-bytes b st e =
     let f : StoreFacts st = store-facts st (h .right) in
     let n : ℕ = store-words (st .config .capacity) in
     let w : (i : ℕ) → i < n → word (8 * i) b ≡ getD (image-words st) i 0 = λ i k. word-at n i b k ∙ ap (λ (l : List ℕ). getD l i 0) (h .words) in
-    let c : (i : ℕ) → i < 856 → word (8 * i) b ≡ getD (config-list (st .config) (installed-words (st .config .capacity) (st .installed))) i 0 =
+    let c : (i : ℕ) → i < records-index → word (8 * i) b ≡ getD (config-list (st .config) (installed-words (st .config .capacity) (st .installed))) i 0 =
     λ i k. w i (omega arith) ∙ ap (λ (l : List ℕ). getD l i 0) (image-is st) in
     record {
       right = h .right;
@@ -272,11 +273,11 @@ store-bytes b st e =
       depth-limit = f .config-right .depth-limit;
       words = w;
       magic-word = c 0 (lit< tt);
-      capacity-word = c 1 (lit< tt);
-      depth-limit-word = c 2 (lit< tt);
-      retention-word = c 3 (lit< tt);
-      idle-word = c 4 (lit< tt);
-      none-word = λ z. w 5 (omega arith) ∙ ap (λ (l : List ℕ). getD l 5 0) (none-is st z);
+      capacity-word = c capacity-index (lit< tt);
+      depth-limit-word = c max-depth-index (lit< tt);
+      retention-word = c retention-index (lit< tt);
+      idle-word = c idle-index (lit< tt);
+      none-word = λ z. w installed-index (omega arith) ∙ ap (λ (l : List ℕ). getD l installed-index 0) (none-is st z);
     }
 
 -- A store with a generation: its words from a place on, its layers, its awaiting slots.
@@ -293,7 +294,7 @@ module _ (b : List ℕ) (st : Store) (g : Generation) (e : decode b ≡ some st)
   words-are : words-of (store-words (st .config .capacity)) b ≡ all-words
   words-are = decode-some b st e .words ∙ installed-is st g i
 
-  word-from : (m j : ℕ) → m + j < 856 → word (8 * m + 8 * j) b ≡ getD (drop m all-words) j 0
+  word-from : (m j : ℕ) → m + j < records-index → word (8 * m + 8 * j) b ≡ getD (drop m all-words) j 0
   word-from m j h =
       let k : 8 * m + 8 * j ≡ 8 * (m + j) = omega arith in
       ap (λ (x : ℕ). word x b) k
@@ -301,7 +302,7 @@ module _ (b : List ℕ) (st : Store) (g : Generation) (e : decode b ≡ some st)
       ∙ ap (λ (l : List ℕ). getD l (m + j) 0) words-are
       ∙ sym (getD-drop m all-words j 0)
 
-  record-words-are : drop 856 all-words ≡ padded (13 * st .config .capacity) (all-record-words (flat-records (chain g)))
+  record-words-are : drop records-index all-words ≡ padded (record-width * st .config .capacity) (all-record-words (flat-records (chain g)))
   record-words-are = drop-awaiting (st .config .capacity) _ _ _ (room (st .config) g (store-right .config-right) generation-right)
 
   -- A layer over others in the chain.
@@ -310,36 +311,36 @@ module _ (b : List ℕ) (st : Store) (g : Generation) (e : decode b ≡ some st)
   layer-area p l ls q =
       let cap : ℕ = st .config .capacity in
       let n : ℕ = record-count ls in
-      let m : ℕ = 13 * length l in
+      let m : ℕ = record-width * length l in
       let f : GenerationFacts (st .config) g = generation-right in
       let fit : n + length l ≤ cap = omega (arith, count-split p l ls, ap record-count q) in
       let long : 8 * store-words cap ≤ length b = decode-some b st e .long in
       let r : LayerRight l = right-split (g .anchor .number) p l ls (subst (λ (x : List Layer). chain-ok (g .anchor .number) x ≡ true) q (f .chain-right)) in
-      let k : 6848 + 104 * n ≡ 8 * (856 + 13 * n) = omega arith in
-      let tail : List ℕ = replicate (13 * cap - length (all-record-words (flat-records (chain g)))) 0 in
-      let part : words-of m (drop (6848 + 104 * n) b) ≡ all-record-words l =
+      let k : records-offset + record-size * n ≡ 8 * (records-index + record-width * n) = omega arith in
+      let tail : List ℕ = replicate (record-width * cap - length (all-record-words (flat-records (chain g)))) 0 in
+      let part : words-of m (drop (records-offset + record-size * n) b) ≡ all-record-words l =
       ap (λ (x : ℕ). words-of m (drop x b)) k
-      ∙ sym (words-part (856 + 13 * n) m (store-words cap) b (omega arith))
-      ∙ ap (λ (x : List ℕ). take m (drop (856 + 13 * n) x)) words-are
-      ∙ ap (take m) (sym (drop-drop (13 * n) 856 all-words) ∙ ap (drop (13 * n)) record-words-are)
-      ∙ ap (λ (x : List Layer). take m (drop (13 * n) (all-record-words (flat-records x) ++ tail))) q
+      ∙ sym (words-part (records-index + record-width * n) m (store-words cap) b (omega arith))
+      ∙ ap (λ (x : List ℕ). take m (drop (records-index + record-width * n) x)) words-are
+      ∙ ap (take m) (sym (drop-drop (record-width * n) records-index all-words) ∙ ap (drop (record-width * n)) record-words-are)
+      ∙ ap (λ (x : List Layer). take m (drop (record-width * n) (all-record-words (flat-records x) ++ tail))) q
       ∙ layer-words p l ls tail in
       record {
         room = omega arith;
-        reads = ap (λ (x : List ℕ). map read-record (entries 13 (length l) x)) part ∙ read-layer l;
+        reads = ap (λ (x : List ℕ). map read-record (entries record-width (length l) x)) part ∙ read-layer l;
         rises = r .rises;
         fits = r .fits;
         narrow = narrow l (r .fits);
       }
 
-  awaiting-words : words-of (9 * length (g .pending)) (drop 2240 b) ≡ all-pending-words (g .pending)
+  awaiting-words : words-of (awaiting-width * length (g .pending)) (drop awaiting-offset b) ≡ all-pending-words (g .pending)
   awaiting-words =
       let cap : ℕ = st .config .capacity in
-      let n : ℕ = 9 * length (g .pending) in
+      let n : ℕ = awaiting-width * length (g .pending) in
       let f : GenerationFacts (st .config) g = generation-right in
       let a : List ℕ = all-pending-words (g .pending) in
-      sym (words-part 280 n (store-words cap) b (omega arith))
-      ∙ ap (λ (x : List ℕ). take n (drop 280 x)) words-are
+      sym (words-part awaiting-index n (store-words cap) b (omega arith))
+      ∙ ap (λ (x : List ℕ). take n (drop awaiting-index x)) words-are
       ∙ ap (take n) (drop-ends cap _ a _ (room (st .config) g (store-right .config-right) f) ∙ append-assoc a _ _)
       ∙ take-at a _ n (length-pending (g .pending))
 
@@ -354,18 +355,18 @@ module _ (b : List ℕ) (st : Store) (g : Generation) (e : decode b ≡ some st)
       record {
         store = store-bytes b st e;
         facts = f;
-        installed-word = word-from 5 0 (lit< tt);
-        number-word = word-from 6 0 (lit< tt);
-        hash-word = λ j h. word-from 7 j (omega arith) ∙ ap (λ (x : List ℕ). getD (x ++ drop 12 all-words) j 0) (sym (hash-five (g .anchor .hash))) ∙ List·getD-append hash (drop 12 all-words) 0 j (omega (arith, ap length (hash-five (g .anchor .hash))));
-        depth-word = word-from 12 0 (lit< tt);
-        records-word = word-from 13 0 (lit< tt);
-        pending-word = word-from 14 0 (lit< tt);
-        totals-word = λ j h. word-from 15 j (omega arith) ∙ List·getD-append (totals-words (g .totals)) t 0 j h;
-        end-word = λ k h. word-from 24 k (omega arith)
+        installed-word = word-from installed-index 0 (lit< tt);
+        number-word = word-from number-index 0 (lit< tt);
+        hash-word = λ j h. word-from hash-index j (omega arith) ∙ ap (λ (x : List ℕ). getD (x ++ drop depth-index all-words) j 0) (sym (hash-five (g .anchor .hash))) ∙ List·getD-append hash (drop depth-index all-words) 0 j (omega (arith, ap length (hash-five (g .anchor .hash))));
+        depth-word = word-from depth-index 0 (lit< tt);
+        records-word = word-from records-count-index 0 (lit< tt);
+        pending-word = word-from awaiting-count-index 0 (lit< tt);
+        totals-word = λ j h. word-from totals-index j (omega arith) ∙ List·getD-append (totals-words (g .totals)) t 0 j h;
+        end-word = λ k h. word-from ends-index k (omega arith)
             ∙ ap (λ (x : List ℕ). getD x k 0) (append-assoc ends _ _)
             ∙ List·getD-append ends _ 0 k (omega (arith, length-ends (g .base)))
             ∙ ends-at (g .base) k h;
         layer = λ k l q. layer-area (g .top ∷ take (length (g .base) - suc k) (g .base)) l (layers-below k (g .base)) (ap (λ (x : List Layer). g .top ∷ x) (sym (take-append-drop (length (g .base) - suc k) (g .base)) ∙ ap (λ (x : List Layer). take (length (g .base) - suc k) (g .base) ++ x) q));
         top = layer-area [] (g .top) (g .base) refl;
-        awaiting = ap (λ (x : List ℕ). map read-pending (entries 9 (length (g .pending)) x)) (awaiting-words ∙ sym (append-nil (all-pending-words (g .pending)))) ∙ read-pendings (g .pending) [];
+        awaiting = ap (λ (x : List ℕ). map read-pending (entries awaiting-width (length (g .pending)) x)) (awaiting-words ∙ sym (append-nil (all-pending-words (g .pending)))) ∙ read-pendings (g .pending) [];
       }

@@ -16,7 +16,7 @@ use Rattle.model.specs.Slots.{Value, anchor-eqb}
 use Rattle.model.specs.Layers.{Layer, is-some, record-count}
 use Rattle.model.specs.declared.read_hub.ReadTotals.{ReadTotals}
 use Rattle.model.specs.declared.read_hub.Lineage.{Lineage}
-use Rattle.model.specs.declared.read_hub.BalSkip.{BalSkip}
+use Rattle.model.specs.declared.bal_prefetch.BalSkip.{BalSkip}
 use Rattle.model.specs.Advance.{skip-of, classify-link, carries, void-base, compact, compact-if, compact-base, is-void, seal, Write, seed-final-writes}
 use Rattle.model.specs.Reads.{Pending, is-awaiting, woken, refused-slots, valued-slots}
 use Rattle.model.specs.Store.{Config, Generation, AnchoredCall, look, get, put, read, take, answer, answer-failed, StoreCall, install, advance, at-anchor, Call, open-store, on-store, chain, resolved, new-generation, with-reads, carry, cold-advance, touched-top, perform-get, perform-read, perform-answer, perform-at, perform-some, perform-none, perform, Memory, accept}

@@ -8,6 +8,7 @@ use lib.Dec.{ltb, lit<}
 use lib.ListN.{length, length-append}
 use lib.Seq.{take-at, drop-at}
 use borrow.Author.Tests.{ltb-true}
+use Rattle.layout.specs.Layout.{awaiting-width, record-width}
 use Rattle.model.specs.declared.storage_memo.Address.{Address}
 use Rattle.model.specs.declared.storage_memo.U256.{U256}
 use Rattle.model.specs.declared.delta_snapshot.Slot.{Slot}
@@ -65,12 +66,12 @@ fit-slot s e =
     fit-cons h (fit-and (a .w1) _ q (λ e₁. fit-cons (fits (a .w2) e₁) (fit-u256 (s .index) (and-right (ltb (a .w0) (2 ^ 32) && low) (u256-fits (s .index)) e))))
 
 fit-content : (c : Content) → content-fits c ≡ true → Fit (content-words c)
-fit-content (use-only u) e = let z : _<_ 0 (2 ^ 64) = lit< tt in fit-cons (fits u e) (fit-cons z (fit-cons z (fit-cons z (fit-cons z (fit-cons z fit-nil)))))
-fit-content (valued u v) e = fit-and u _ e (λ e₁. fit-cons (lit< tt) (fit-u256 v e₁))
+fit-content (use-only u) e = let z : _<_ 0 (2 ^ 64) = lit< tt in fit-cons (fits u e) (fit-cons z (fit-cons z (fit-cons z (fit-cons z (fit-cons z (fit-cons z fit-nil))))))
+fit-content (valued u v) e = fit-and u _ e (λ e₁. fit-cons (lit< tt) (fit-append (fit-u256 v e₁) (fit-cons (lit< tt) fit-nil)))
 
 -- Records ---------------------------------------------------------------------------------------------
 
-record-wide : (s : Slot) (c : Content) → length (record-words (record { slot = s; content = c })) ≡ 13
+record-wide : (s : Slot) (c : Content) → length (record-words (record { slot = s; content = c })) ≡ record-width
 record-wide s (use-only u) = refl
 record-wide s (valued u v) = refl
 
@@ -83,13 +84,13 @@ unfolding all-record-words joined
 records-joined [] = refl
 records-joined (r ∷ rs) = ap (λ (l : List ℕ). record-words r ++ l) (records-joined rs)
 
-pub length-records : (rs : List Record) → length (all-record-words rs) ≡ 13 * length rs
-length-records rs = ap length (records-joined rs) ∙ length-joined 13 record-words (λ r. record-wide (r .slot) (r .content)) rs
+pub length-records : (rs : List Record) → length (all-record-words rs) ≡ record-width * length rs
+length-records rs = ap length (records-joined rs) ∙ length-joined record-width record-words (λ r. record-wide (r .slot) (r .content)) rs
 
-pub read-records : (rs : List Record) (rest : List ℕ) → map read-record (entries 13 (length rs) (all-record-words rs ++ rest)) ≡ rs
+pub read-records : (rs : List Record) (rest : List ℕ) → map read-record (entries record-width (length rs) (all-record-words rs ++ rest)) ≡ rs
 read-records rs rest =
-    ap (λ (l : List ℕ). map read-record (entries 13 (length rs) (l ++ rest))) (records-joined rs)
-    ∙ read-joined 13 record-words (λ r. record-wide (r .slot) (r .content)) read-record (λ r. record-back (r .slot) (r .content)) rs rest
+    ap (λ (l : List ℕ). map read-record (entries record-width (length rs) (l ++ rest))) (records-joined rs)
+    ∙ read-joined record-width record-words (λ r. record-wide (r .slot) (r .content)) read-record (λ r. record-back (r .slot) (r .content)) rs rest
 
 -- Every record of a layer fits.
 abbrev fitting : Layer → Bool
@@ -166,20 +167,20 @@ unfolding all-pending-words joined
 pending-joined [] = refl
 pending-joined (w ∷ q) = ap (λ (l : List ℕ). pending-words w ++ l) (pending-joined q)
 
-pub length-pending : (q : List Pending) → length (all-pending-words q) ≡ 9 * length q
-length-pending q = ap length (pending-joined q) ∙ length-joined 9 pending-words (λ w. refl) q
+pub length-pending : (q : List Pending) → length (all-pending-words q) ≡ awaiting-width * length q
+length-pending q = ap length (pending-joined q) ∙ length-joined awaiting-width pending-words (λ w. refl) q
 
-pub read-pendings : (q : List Pending) (rest : List ℕ) → map read-pending (entries 9 (length q) (all-pending-words q ++ rest)) ≡ q
+pub read-pendings : (q : List Pending) (rest : List ℕ) → map read-pending (entries awaiting-width (length q) (all-pending-words q ++ rest)) ≡ q
 read-pendings q rest =
-    ap (λ (l : List ℕ). map read-pending (entries 9 (length q) (l ++ rest))) (pending-joined q)
-    ∙ read-joined 9 pending-words (λ w. refl) read-pending (λ w. pending-back (w .slot) (w .waiters) (w .taken)) q rest
+    ap (λ (l : List ℕ). map read-pending (entries awaiting-width (length q) (l ++ rest))) (pending-joined q)
+    ∙ read-joined awaiting-width pending-words (λ w. refl) read-pending (λ w. pending-back (w .slot) (w .waiters) (w .taken)) q rest
 
 fit-flag : (t : Bool) → flag t < 2 ^ 64
 fit-flag true = lit< tt
 fit-flag false = lit< tt
 
 fit-pending : (w : Pending) → slot-fits (w .slot) ≡ true → w .waiters < 2 ^ 64 → Fit (pending-words w)
-fit-pending w e h = fit-append (fit-slot (w .slot) e) (fit-cons h (fit-cons (fit-flag (w .taken)) fit-nil))
+fit-pending w e h = fit-append (fit-slot (w .slot) e) (fit-cons h (fit-cons (fit-flag (w .taken)) (fit-cons (lit< tt) fit-nil)))
 
 -- Awaiting slots that rise from a slot are right by themselves.
 unplaced : (s : Slot) (q : List Pending) → pending-ok-from s q ≡ true → pending-ok q ≡ true

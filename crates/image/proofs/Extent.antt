@@ -7,6 +7,7 @@ use mathlib.Core.Option.{Option, some, none}
 use native.Mathlib.Omega.{arith}
 use lib.Dec.{lit<, lit≤}
 use lib.ListN.{length, replicate, length-append}
+use Rattle.layout.specs.Layout.{awaiting-table, ends-limit, generation-width, record-width, table-width}
 use Rattle.model.specs.declared.storage_memo.BlockHash.{BlockHash}
 use Rattle.model.specs.declared.storage_memo.BlockHash.the-variants.{Unknown, Known}
 use Rattle.model.specs.declared.delta_snapshot.Retention.{Retention}
@@ -38,14 +39,14 @@ length-generation g = ap (λ (n : ℕ). suc (suc n)) (length-append (hash-words 
 
 -- The parts of the tables fit their places.
 pub record Room (capacity : ℕ) (ends awaiting records : List ℕ) : Type 0 where
-  pub ends-room : length ends ≤ 256
-  pub awaiting-room : length awaiting ≤ 576
-  pub records-room : length records ≤ 13 * capacity
+  pub ends-room : length ends ≤ ends-limit
+  pub awaiting-room : length awaiting ≤ awaiting-table
+  pub records-room : length records ≤ record-width * capacity
 
-length-tables : (capacity : ℕ) (e a r : List ℕ) → Room capacity e a r → length (table-words capacity e a r) ≡ 832 + 13 * capacity
+length-tables : (capacity : ℕ) (e a r : List ℕ) → Room capacity e a r → length (table-words capacity e a r) ≡ table-width + record-width * capacity
 length-tables n e a r h =
-    length-append (padded 256 e) (padded 576 a ++ padded (13 * n) r)
-    ∙ omega (arith, length-append (padded 576 a) (padded (13 * n) r), length-padded 256 e (h .ends-room), length-padded 576 a (h .awaiting-room), length-padded (13 * n) r (h .records-room))
+    length-append (padded ends-limit e) (padded awaiting-table a ++ padded (record-width * n) r)
+    ∙ omega (arith, length-append (padded awaiting-table a) (padded (record-width * n) r), length-padded ends-limit e (h .ends-room), length-padded awaiting-table a (h .awaiting-room), length-padded (record-width * n) r (h .records-room))
 
 -- Empty tables fit, and so do those of a generation.
 empty-room : (capacity : ℕ) → Room capacity [] [] []
@@ -59,9 +60,9 @@ room cfg g c f =
       records-room = omega (arith, length-records (flat-records (chain g)), length-flat (chain g));
     }
 
-length-installed : (cfg : Config) (i : Option Generation) → ConfigFacts cfg → installed-ok cfg i ≡ true → length (installed-words (cfg .capacity) i) ≡ 851 + 13 * cfg .capacity
+length-installed : (cfg : Config) (i : Option Generation) → ConfigFacts cfg → installed-ok cfg i ≡ true → length (installed-words (cfg .capacity) i) ≡ generation-width + table-width + record-width * cfg .capacity
 length-installed cfg none c e =
-    length-append (replicate {A = ℕ} 19 0) (table-words (cfg .capacity) [] [] [])
+    length-append (replicate {A = ℕ} generation-width 0) (table-words (cfg .capacity) [] [] [])
     ∙ omega (arith, length-tables (cfg .capacity) [] [] [] (empty-room (cfg .capacity)))
 length-installed cfg (some g) c e =
     length-append (generation-words g) _
@@ -110,7 +111,7 @@ fit-generation cfg g c f =
     (fit-cons depth (fit-cons records (fit-cons awaiting (fit-totals (g .pending) (g .totals) (f .totals-add-up)))))))
 
 fit-tables : (capacity : ℕ) {e a r : List ℕ} → Fit e → Fit a → Fit r → Fit (table-words capacity e a r)
-fit-tables n p q s = fit-append (fit-padded 256 p) (fit-append (fit-padded 576 q) (fit-padded (13 * n) s))
+fit-tables n p q s = fit-append (fit-padded ends-limit p) (fit-append (fit-padded awaiting-table q) (fit-padded (record-width * n) s))
 
 fit-installed : (cfg : Config) (i : Option Generation) → ConfigFacts cfg → installed-ok cfg i ≡ true → Fit (installed-words (cfg .capacity) i)
 unfolding record-count

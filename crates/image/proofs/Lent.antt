@@ -8,6 +8,7 @@ use native.Mathlib.Omega.{arith}
 use lib.Dec.{eqb, leb}
 use lib.ListN.{length, take, drop}
 use borrow.Author.Tests.{eqb-true}
+use Rattle.layout.specs.Layout.{installed-offset}
 use Rattle.model.specs.Layers.{is-some}
 use Rattle.model.specs.Store.{Generation, Store, Memory}
 use Rattle.model.proofs.SlotLaws.{split, not-both}
@@ -40,17 +41,17 @@ decoded-some b e = go (decode b) refl e
     go (some st) q h = decoded b st q
 
 -- What is installed: nothing where word 5 is 0, else the generation that the bytes read as.
-installed-is : (b : List ℕ) → store-of b .installed ≡ cond (eqb (word 40 b) 0) none (some (generation-of b))
+installed-is : (b : List ℕ) → store-of b .installed ≡ cond (eqb (word installed-offset b) 0) none (some (generation-of b))
 unfolding store-of generation-of words-in read-store
 installed-is b = ap (λ (x : ℕ). cond (eqb x 0) none (some (generation-of b))) (sym (word-at _ 5 b (omega arith)))
 
-pub installed-by : (b : List ℕ) → not (eqb (word 40 b) 0) ≡ is-some (store-of b .installed)
-installed-by b = split (eqb (word 40 b) 0) (λ t. rw (installed-is b, t)) (λ t. rw (installed-is b, t))
+pub installed-by : (b : List ℕ) → not (eqb (word installed-offset b) 0) ≡ is-some (store-of b .installed)
+installed-by b = split (eqb (word installed-offset b) 0) (λ t. rw (installed-is b, t)) (λ t. rw (installed-is b, t))
 
-pub installs : (b : List ℕ) → IsStore b → (word 40 b ≡ 0 → ⊥) → Installed b
+pub installs : (b : List ℕ) → IsStore b → (word installed-offset b ≡ 0 → ⊥) → Installed b
 installs b e h = record {
   is-store = e;
-  installs = installed-is b ∙ split (eqb (word 40 b) 0) (λ t. absurd (h (eqb-true _ _ t))) (λ t. rw t);
+  installs = installed-is b ∙ split (eqb (word installed-offset b) 0) (λ t. absurd (h (eqb-true _ _ t))) (λ t. rw t);
 }
 
 pub installs-some : (b : List ℕ) → IsStore b → is-some (store-of b .installed) ≡ true → Installed b
@@ -58,7 +59,7 @@ installs-some b e h =
     installs b e (λ z. let f : false ≡ true = ap (λ (x : ℕ). not (eqb x 0)) (sym z) ∙ installed-by b ∙ h in not-both refl (sym f))
 
 pub installed : (b : List ℕ) (st : Store) (g : Generation) → decode b ≡ some st → st .installed ≡ some g → Installed b
-installed b st g e i = installs b (decoded b st e) (λ z. let f : word 40 b ≡ 1 = generation-bytes b st g e i .installed-word in omega arith)
+installed b st g e i = installs b (decoded b st e) (λ z. let f : word installed-offset b ≡ 1 = generation-bytes b st g e i .installed-word in omega arith)
 
 pub generation-is : (b : List ℕ) (st : Store) (g : Generation) → decode b ≡ some st → st .installed ≡ some g → generation-of b ≡ g
 generation-is b st g e i =

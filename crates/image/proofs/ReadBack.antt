@@ -9,6 +9,7 @@ use lib.Dec.{leb}
 use lib.ListN.{length, take, drop, length-append}
 use lib.Seq.{take-at, drop-at, drop-drop}
 use borrow.Author.Tests.{leb-true, le-leb}
+use Rattle.layout.specs.Layout.{awaiting-table, awaiting-width, ends-limit, record-width, table-width}
 use Rattle.model.specs.declared.storage_memo.BlockHash.{BlockHash}
 use Rattle.model.specs.declared.storage_memo.BlockHash.the-variants.{Unknown, Known}
 use Rattle.model.specs.declared.storage_memo.ReadAnchor.{ReadAnchor}
@@ -37,14 +38,14 @@ module _ (capacity : ℕ) (e a r : List ℕ) (h : Room capacity e a r) where
   take-ends : (n : ℕ) → length e ≡ n → take n (table-words capacity e a r) ≡ e
   take-ends n k = ap (take n) (append-assoc e _ _) ∙ take-at e _ n k
 
-  pub drop-ends : drop 256 (table-words capacity e a r) ≡ padded 576 a ++ padded (13 * capacity) r
-  drop-ends = drop-at (padded 256 e) _ 256 (length-padded 256 e (h .ends-room))
+  pub drop-ends : drop ends-limit (table-words capacity e a r) ≡ padded awaiting-table a ++ padded (record-width * capacity) r
+  drop-ends = drop-at (padded ends-limit e) _ ends-limit (length-padded ends-limit e (h .ends-room))
 
-  pub drop-awaiting : drop 832 (table-words capacity e a r) ≡ padded (13 * capacity) r
+  pub drop-awaiting : drop table-width (table-words capacity e a r) ≡ padded (record-width * capacity) r
   drop-awaiting =
-      sym (drop-drop 576 256 (table-words capacity e a r))
-      ∙ ap (drop 576) drop-ends
-      ∙ drop-at (padded 576 a) _ 576 (length-padded 576 a (h .awaiting-room))
+      sym (drop-drop awaiting-table ends-limit (table-words capacity e a r))
+      ∙ ap (drop awaiting-table) drop-ends
+      ∙ drop-at (padded awaiting-table a) _ awaiting-table (length-padded awaiting-table a (h .awaiting-room))
 
 -- Reading ---------------------------------------------------------------------------------------------
 
@@ -56,7 +57,7 @@ assembled a es rs q t = record { anchor = a; base = cut 0 es rs [] .base; top = 
 read-header : (v w x y z n : ℕ) (h : BlockHash) (b : List Layer) (top : Layer) (q : List Pending) (s : ReadTotals) (t : List ℕ) →
     let a : ReadAnchor = record { number = n; hash = h } in
     read-generation (v ∷ w ∷ x ∷ y ∷ z ∷ (generation-words (record { anchor = a; base = b; top = top; pending = q; totals = s }) ++ t))
-    ≡ assembled a (take (suc (pred (length b))) t) (map read-record (entries 13 (record-count (top ∷ b)) (drop 832 t))) (map read-pending (entries 9 (length q) (drop 256 t))) s
+    ≡ assembled a (take (suc (pred (length b))) t) (map read-record (entries record-width (record-count (top ∷ b)) (drop table-width t))) (map read-pending (entries awaiting-width (length q) (drop ends-limit t))) s
 unfolding read-generation
 read-header v w x y z n Unknown b top q s t = refl
 read-header v w x y z n (Known h) b top q s t = refl
@@ -71,15 +72,15 @@ read-installed cfg g v w x y z c f =
     let h : Room (cfg .capacity) e a r = room cfg g c f in
     let depth : length e ≡ suc (pred (length (g .base))) = omega (arith, length-ends (g .base)) in
     let ends : take (suc (pred (length (g .base)))) t ≡ e = take-ends (cfg .capacity) e a r h (suc (pred (length (g .base)))) depth in
-    let records : map read-record (entries 13 (record-count (chain g)) (drop 832 t)) ≡ flat-records (chain g) =
-    ap (λ (l : List ℕ). map read-record (entries 13 (record-count (chain g)) l)) (drop-awaiting (cfg .capacity) e a r h)
-    ∙ ap (λ (n : ℕ). map read-record (entries 13 n (padded (13 * cfg .capacity) r))) (sym (length-flat (chain g)))
+    let records : map read-record (entries record-width (record-count (chain g)) (drop table-width t)) ≡ flat-records (chain g) =
+    ap (λ (l : List ℕ). map read-record (entries record-width (record-count (chain g)) l)) (drop-awaiting (cfg .capacity) e a r h)
+    ∙ ap (λ (n : ℕ). map read-record (entries record-width n (padded (record-width * cfg .capacity) r))) (sym (length-flat (chain g)))
     ∙ read-records (flat-records (chain g)) _ in
-    let awaiting : map read-pending (entries 9 (length (g .pending)) (drop 256 t)) ≡ g .pending =
-    ap (λ (l : List ℕ). map read-pending (entries 9 (length (g .pending)) l)) (drop-ends (cfg .capacity) e a r h ∙ append-assoc a _ _)
+    let awaiting : map read-pending (entries awaiting-width (length (g .pending)) (drop ends-limit t)) ≡ g .pending =
+    ap (λ (l : List ℕ). map read-pending (entries awaiting-width (length (g .pending)) l)) (drop-ends (cfg .capacity) e a r h ∙ append-assoc a _ _)
     ∙ read-pendings (g .pending) _ in
     read-header v w x y z (g .anchor .number) (g .anchor .hash) (g .base) (g .top) (g .pending) (g .totals) t
-    ∙ ap₂ (λ (es : List ℕ) (rs : List Record). assembled (g .anchor) es rs (map read-pending (entries 9 (length (g .pending)) (drop 256 t))) (g .totals)) ends records
+    ∙ ap₂ (λ (es : List ℕ) (rs : List Record). assembled (g .anchor) es rs (map read-pending (entries awaiting-width (length (g .pending)) (drop ends-limit t))) (g .totals)) ends records
     ∙ ap₂ (λ (k : Cut) (q : List Pending). record { anchor = g .anchor; base = k .base; top = k .top; pending = q; totals = g .totals }) (cut-back (g .base) (g .top)) awaiting
 
 -- A store's words of its parts.

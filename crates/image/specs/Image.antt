@@ -5,6 +5,7 @@ use mathlib.Core.List.{List, [], _∷_, _++_, map}
 use mathlib.Core.Option.{Option, some, none}
 use lib.Dec.{eqb, leb}
 use lib.ListN.{length, take, drop, getD, replicate}
+use Rattle.layout.specs.Layout.{awaiting-count-index, awaiting-index, awaiting-table, awaiting-width, capacity-index, capacity-offset, depth-index, ends-index, ends-limit, generation-width, hash-index, installed-index, magic, max-depth-index, number-index, record-width, records-count-index, records-index, retention-index, slot-width, taken-index, totals-index, waiters-index}
 use Rattle.model.specs.declared.storage_memo.Address.{Address}
 use Rattle.model.specs.declared.storage_memo.U256.{U256}
 use Rattle.model.specs.declared.delta_snapshot.Slot.{Slot}
@@ -51,16 +52,17 @@ hash-words (Known h) = 1 ∷ u256-words h
 abbrev pub totals-words : ReadTotals → List ℕ
 totals-words t = t .accepted ∷ t .served ∷ t .waiting ∷ t .valued ∷ t .refused ∷ t .rounds ∷ t .members ∷ t .errors ∷ t .coalesced ∷ []
 
+-- The last word has room for a second last use.
 abbrev pub content-words : Content → List ℕ
-content-words (use-only u) = u ∷ 0 ∷ 0 ∷ 0 ∷ 0 ∷ 0 ∷ []
-content-words (valued u v) = u ∷ 1 ∷ u256-words v
+content-words (use-only u) = u ∷ 0 ∷ 0 ∷ 0 ∷ 0 ∷ 0 ∷ 0 ∷ []
+content-words (valued u v) = u ∷ 1 ∷ (u256-words v ++ (0 ∷ []))
 
--- A record has 13 words, an awaiting slot 9.
+-- A record's words, and an awaiting slot's: so many as `record-width` and `awaiting-width` say.
 abbrev pub record-words : Record → List ℕ
 record-words r = slot-words (r .slot) ++ content-words (r .content)
 
 abbrev pub pending-words : Pending → List ℕ
-pending-words w = slot-words (w .slot) ++ (w .waiters ∷ flag (w .taken) ∷ [])
+pending-words w = slot-words (w .slot) ++ (w .waiters ∷ flag (w .taken) ∷ 0 ∷ [])
 
 unfoldable pub all-record-words : List Record → List ℕ
 all-record-words [] = []
@@ -84,10 +86,6 @@ layer-ends (l ∷ ls) = layer-ends ls ++ (record-count (l ∷ ls) ∷ [])
 abbrev pub padded : ℕ → List ℕ → List ℕ
 padded n l = l ++ replicate (n - length l) 0
 
--- The first word of every store: the letters `poxilme` and the layout's number.
-abbrev pub magic : ℕ
-magic = 0x706f78696c6d6501
-
 -- Words 0 to 4: what the open set.
 abbrev pub config-words : Config → List ℕ
 config-words cfg = magic ∷ cfg .capacity ∷ cfg .max-depth ∷ retention-words (cfg .retention)
@@ -98,13 +96,13 @@ generation-words g =
     1 ∷ g .anchor .number
     ∷ (hash-words (g .anchor .hash) ++ (pred (length (g .base)) ∷ record-count (chain g) ∷ length (g .pending) ∷ totals-words (g .totals)))
 
--- From word 24 on: 256 layer ends, 64 awaiting slots, the records up to the capacity.
+-- After the header: the layer ends, the awaiting slots, the records up to the capacity.
 abbrev pub table-words : ℕ → List ℕ → List ℕ → List ℕ → List ℕ
-table-words capacity ends awaiting records = padded 256 ends ++ (padded 576 awaiting ++ padded (13 * capacity) records)
+table-words capacity ends awaiting records = padded ends-limit ends ++ (padded awaiting-table awaiting ++ padded (record-width * capacity) records)
 
 -- With nothing installed all these words are 0: that a store then holds nothing is enforced here.
 abbrev pub installed-words : ℕ → Option Generation → List ℕ
-installed-words capacity none = replicate 19 0 ++ table-words capacity [] [] []
+installed-words capacity none = replicate generation-width 0 ++ table-words capacity [] [] []
 installed-words capacity (some g) =
     generation-words g
     ++ table-words capacity (layer-ends (g .base)) (all-pending-words (g .pending)) (all-record-words (flat-records (chain g)))
@@ -128,10 +126,10 @@ abbrev pub read-content : List ℕ → Content
 read-content l = cond (eqb (getD l 1 0) 0) (use-only (getD l 0 0)) (valued (getD l 0 0) (read-u256 (drop 2 l)))
 
 abbrev pub read-record : List ℕ → Record
-read-record l = record { slot = read-slot l; content = read-content (drop 7 l) }
+read-record l = record { slot = read-slot l; content = read-content (drop slot-width l) }
 
 abbrev pub read-pending : List ℕ → Pending
-read-pending l = record { slot = read-slot l; waiters = getD l 7 0; taken = not (eqb (getD l 8 0) 0) }
+read-pending l = record { slot = read-slot l; waiters = getD l waiters-index 0; taken = not (eqb (getD l taken-index 0) 0) }
 
 -- n entries of w words each.
 unfoldable pub entries : ℕ → ℕ → List ℕ → List (List ℕ)
@@ -170,26 +168,26 @@ read-totals l =
 -- The generation that the words of a store give.
 unfoldable pub read-generation : List ℕ → Generation
 read-generation l =
-    let c : Cut = cut 0 (part 24 (suc (getD l 12 0)) l) (map read-record (entries 13 (getD l 13 0) (drop 856 l))) [] in
+    let c : Cut = cut 0 (part ends-index (suc (getD l depth-index 0)) l) (map read-record (entries record-width (getD l records-count-index 0) (drop records-index l))) [] in
     record {
-      anchor = record { number = getD l 6 0; hash = read-hash (drop 7 l) };
+      anchor = record { number = getD l number-index 0; hash = read-hash (drop hash-index l) };
       base = c .base;
       top = c .top;
-      pending = map read-pending (entries 9 (getD l 14 0) (drop 280 l));
-      totals = read-totals (drop 15 l);
+      pending = map read-pending (entries awaiting-width (getD l awaiting-count-index 0) (drop awaiting-index l));
+      totals = read-totals (drop totals-index l);
     }
 
 unfoldable pub read-store : List ℕ → Store
 read-store l =
     record {
-      config = record { capacity = getD l 1 0; max-depth = getD l 2 0; retention = read-retention (drop 3 l) };
-      installed = cond (eqb (getD l 5 0) 0) none (some (read-generation l));
+      config = record { capacity = getD l capacity-index 0; max-depth = getD l max-depth-index 0; retention = read-retention (drop retention-index l) };
+      installed = cond (eqb (getD l installed-index 0) 0) none (some (read-generation l));
     }
 
 -- The lent bytes as a store: they begin with the image of the well-formed state that they read as, or they are not a store. Bytes past the image are no part of it.
 unfoldable pub decode : List ℕ → Memory
 decode b =
-    let n : ℕ = store-words (num (take 8 (drop 8 b))) in
+    let n : ℕ = store-words (num (take 8 (drop capacity-offset b))) in
     let ws : List ℕ = words-of n b in
     let st : Store = read-store ws in
     cond (leb (8 * n) (length b) && (well-formed st && words-eqb ws (image-words st))) (some st) none

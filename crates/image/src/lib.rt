@@ -2,11 +2,6 @@
 ghost use Rattle.image.specs.Claims.{ImageClaims};
 ghost use Rattle.image.specs.Demand3OnBytes.{DemandOnBytes};
 
-// The bytes that a store needs besides its records, and those of a record.
-pub const HEADER_BYTES: usize = 6848;
-
-pub const RECORD_BYTES: usize = 104;
-
 // The claims of the image, and demand 3 on lent bytes. The contract is what is claimed, so that the gate fails without the proofs.
 pub fn claims()
     ensures { λ _. ⌜ ImageClaims × DemandOnBytes ⌝ }

@@ -8,6 +8,7 @@ use native.Mathlib.Omega.{arith}
 use lib.Dec.{eqb}
 use lib.ListN.{length, take, drop, getD, length-drop}
 use lib.Seq.{take-all}
+use Rattle.layout.specs.Layout.{record-size, records-offset}
 use Rattle.model.specs.declared.storage_memo.U256.{U256}
 use Rattle.model.specs.declared.delta_snapshot.Slot.{Slot}
 use Rattle.model.specs.Slots.{Value, LastUse, serves}
@@ -65,7 +66,7 @@ module _ (n : ℕ) (s : List ℕ) (t : Slot) (f : Found) (p : f ≡ place-in t (
   entry-lt : f ≡ FoundAt i → i < n
   entry-lt q = omega (arith, found-lt (records-of n s) t i (sym p ∙ q), records-length n s)
 
-  pub entry-room : n * 104 ≤ length s → f ≡ FoundAt i → (i + 1) * 104 ≤ length s
+  pub entry-room : n * record-size ≤ length s → f ≡ FoundAt i → (i + 1) * record-size ≤ length s
   entry-room h q = omega (arith, entry-lt q)
 
   entry-is : f ≡ FoundAt i → find t (records-of n s) ≡ some (content-of (getD (words-at i s) 7 0) (not (eqb (getD (words-at i s) 8 0) 0)) (read-u256 (drop 9 (words-at i s))))
@@ -82,18 +83,18 @@ module _ (n : ℕ) (s : List ℕ) (t : Slot) (f : Found) (p : f ≡ place-in t (
 
 -- The bytes from record x on.
 abbrev pub lent : ℕ → List ℕ → List ℕ
-lent x b = take (length b - (6848 + 104 * x)) (drop (6848 + 104 * x) b)
+lent x b = take (length b - (records-offset + record-size * x)) (drop (records-offset + record-size * x) b)
 
 -- What is asked and found in the part of the n records of a layer, from record x on.
 module _ (b : List ℕ) (from : ℕ) (l : Layer) (area : Area b from l) (x n : ℕ) (p : x ≡ from) (q : n ≡ length l) where
-  lent-rest : lent x b ≡ drop (6848 + 104 * x) b
-  lent-rest = take-all (length b - (6848 + 104 * x)) (drop (6848 + 104 * x) b) (omega (arith, length-drop (6848 + 104 * x) b))
+  lent-rest : lent x b ≡ drop (records-offset + record-size * x) b
+  lent-rest = take-all (length b - (records-offset + record-size * x)) (drop (records-offset + record-size * x) b) (omega (arith, length-drop (records-offset + record-size * x) b))
 
   lent-reads : records-of n (lent x b) ≡ l
-  lent-reads = ap (records-of n) lent-rest ∙ ap₂ (λ (m k : ℕ). records-of m (drop (6848 + 104 * k) b)) q p ∙ area .reads
+  lent-reads = ap (records-of n) lent-rest ∙ ap₂ (λ (m k : ℕ). records-of m (drop (records-offset + record-size * k) b)) q p ∙ area .reads
 
-  pub lent-asks : (n * 104 ≤ length (lent x b)) × (rising (records-of n (lent x b)) ≡ true)
-  lent-asks = (omega (arith, ap length lent-rest, length-drop (6848 + 104 * x) b, area .room), ap rising lent-reads ∙ area .rises)
+  pub lent-asks : (n * record-size ≤ length (lent x b)) × (rising (records-of n (lent x b)) ≡ true)
+  lent-asks = (omega (arith, ap length lent-rest, length-drop (records-offset + record-size * x) b, area .room), ap rising lent-reads ∙ area .rises)
 
   pub lent-finds : (t : Slot) (e : Option Content) → e ≡ find t (records-of n (lent x b)) → e ≡ find t l
   lent-finds t e r = r ∙ ap (find t) lent-reads

@@ -7,6 +7,7 @@ ghost use mathlib.Core.Path.{_≡_};
 ghost use mathlib.Core.Bool.{true};
 ghost use Prim.Native.Nat.{_+_, _*_, _≤_, _<_};
 ghost use lib.ListN.{length};
+ghost use Rattle.layout.specs.Layout.{record-size};
 ghost use Rattle.model.specs.Layers.{is-some, max-option, find, last-use-of, value-of, held-value, freshest-use, record-count};
 ghost use Rattle.model.specs.Store.{chain, resolved};
 ghost use Rattle.image.specs.WellFormed.{rising};
@@ -38,10 +39,10 @@ pub fn retention(s: &[u8]) -> Retention
     requires { ⌜ IsStore (now s) ⌝ }
     ensures { λ r. ⌜ r ≡ store-of (now (s .entry)) .config .retention ⌝ }
 {
-    if words::read_u64(s, 24) == 0 {
+    if words::read_u64(s, layout::RETENTION_OFFSET) == 0 {
         return Retention::Unbounded;
     }
-    Retention::IdleBlocks(words::read_u64(s, 32))
+    Retention::IdleBlocks(words::read_u64(s, layout::IDLE_OFFSET))
 }
 
 // Whether a generation is installed.
@@ -49,7 +50,7 @@ pub fn is_installed(s: &[u8]) -> bool
     requires { ⌜ IsStore (now s) ⌝ }
     ensures { λ r. ⌜ r ≡ is-some (store-of (now (s .entry)) .installed) ⌝ }
 {
-    words::read_u64(s, 40) != 0
+    words::read_u64(s, layout::INSTALLED_OFFSET) != 0
 }
 
 // The number of the installed anchor.
@@ -57,7 +58,7 @@ pub fn installed_number(s: &[u8]) -> u64
     requires { ⌜ Installed (now s) ⌝ }
     ensures { λ r. ⌜ r ≡ generation-of (now (s .entry)) .anchor .number ⌝ }
 {
-    words::read_u64(s, 48)
+    words::read_u64(s, layout::NUMBER_OFFSET)
 }
 
 // How many layers the base has.
@@ -65,8 +66,11 @@ pub fn layers(s: &[u8]) -> usize
     requires { ⌜ Installed (now s) ⌝ }
     ensures { λ r. ⌜ r ≡ length (generation-of (now (s .entry)) .base) ⌝ }
 {
-    words::read_u64(s, 96) as usize + 1
+    words::read_u64(s, layout::DEPTH_OFFSET) as usize + 1
 }
+
+// Eight bytes before the layer ends: the end of the layer below layer k is the kth word from here on.
+const LOWER_END_OFFSET: usize = layout::ENDS_OFFSET - 8;
 
 // How many records stand below layer k.
 pub fn layer_start(s: &[u8], k: usize) -> usize
@@ -76,7 +80,7 @@ pub fn layer_start(s: &[u8], k: usize) -> usize
     if k == 0 {
         return 0;
     }
-    words::read_u64(s, 184 + 8 * k) as usize
+    words::read_u64(s, LOWER_END_OFFSET + 8 * k) as usize
 }
 
 // How many records stand below the top.
@@ -92,7 +96,7 @@ pub fn top_count(s: &[u8]) -> usize
     requires { ⌜ Installed (now s) ⌝ }
     ensures { λ r. ⌜ r ≡ length (generation-of (now (s .entry)) .top) ⌝ }
 {
-    words::read_u64(s, 104) as usize - top_start(s)
+    words::read_u64(s, layout::RECORDS_COUNT_OFFSET) as usize - top_start(s)
 }
 
 // The later of two uses.
@@ -110,7 +114,7 @@ fn later(a: Use, b: Use) -> Use
 
 // The record of a slot among the n records that s begins with.
 fn entry_in(s: &[u8], n: usize, slot: Slot) -> Entry
-    requires { ⌜ (n * 104 ≤ length (now s)) × (rising (records-of n (now s)) ≡ true) ⌝ }
+    requires { ⌜ (n * record-size ≤ length (now s)) × (rising (records-of n (now s)) ≡ true) ⌝ }
     ensures { λ r. ⌜ entry-content r ≡ find slot (records-of n (now (s .entry))) ⌝ }
 {
     let f = records::find(s, n, slot);
@@ -131,7 +135,7 @@ fn layer_entry(s: &[u8], k: usize, slot: Slot) -> Entry
 {
     let start = layer_start(s, k);
     let n = layer_start(s, k + 1) - start;
-    let at = image::HEADER_BYTES + image::RECORD_BYTES * start;
+    let at = layout::RECORDS_OFFSET + layout::RECORD_SIZE * start;
     entry_in(&s[at..], n, slot)
 }
 
@@ -141,7 +145,7 @@ pub fn top_entry(s: &[u8], slot: Slot) -> Entry
     ensures { λ r. ⌜ entry-content r ≡ find slot (generation-of (now (s .entry)) .top) ⌝ }
 {
     let n = top_count(s);
-    let at = image::HEADER_BYTES + image::RECORD_BYTES * top_start(s);
+    let at = layout::RECORDS_OFFSET + layout::RECORD_SIZE * top_start(s);
     entry_in(&s[at..], n, slot)
 }
 

@@ -7,7 +7,7 @@ use native.Mathlib.Omega.{arith}
 use lib.ListN.{length, drop, getD, length-append, drop-of-length-le}
 use lib.Seq.{drop-cons}
 use Rattle.call_list.specs.Listing.{decimal, decimals, line}
-use Rattle.listing.proofs.Digits.{decimal-length}
+use Rattle.digits.proofs.Digits.{decimal-length}
 
 -- what stands after the word
 unfoldable pub fields : List ℕ → List ℕ

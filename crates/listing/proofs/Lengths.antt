@@ -13,7 +13,7 @@ use Rattle.model.specs.Store.{Report, opened, anchor-same, anchor-fresh, advanc
 use Rattle.call_list.specs.Listing.{ascii, line, decimals, u256-hex, slot-hex, slot-lines, delta-line, report-lines, refusal-line}
 use Rattle.listing.specs.declared.AdvanceCounts.{AdvanceCounts}
 use Rattle.listing.specs.Lines.{counts-of, counts-line, carried-counts, cold-counts}
-use Rattle.listing.proofs.Digits.{u256-hex-length, slot-hex-length}
+use Rattle.digits.proofs.Digits.{u256-hex-length, slot-hex-length}
 use Rattle.listing.proofs.Fields.{line-length}
 
 -- an advance's line is that of its report's counts

@@ -1,19 +1,12 @@
--- Bytes written at a place of an output, and the line of an advance by its counts.
-use Prim.Native.Nat.{ℕ, _+_}
-use mathlib.Core.Path.{_≡_}
+-- The line of an advance by its counts.
+use Prim.Native.Nat.{ℕ}
 use mathlib.Core.List.{List, [], _∷_}
 use lib.ListN.{length}
 use Rattle.model.specs.declared.read_hub.CarryOutcome.{CarryOutcome}
 use Rattle.model.specs.declared.read_hub.CarryOutcome.the-variants.{AlreadyCurrent, Carried, Cold}
 use Rattle.model.specs.Advance.{lineage-number, skip-number, DeltaReport}
 use Rattle.call_list.specs.Listing.{ascii, line, decimals}
-use Rattle.words.specs.Parts.{placed}
 use Rattle.listing.specs.declared.AdvanceCounts.{AdvanceCounts}
-
--- A text stands at a place of an output; what is before and after is as it was. The next place is past it.
-pub record Written (at : ℕ) (text before after : List ℕ) (next : ℕ) : Type 0 where
-  pub bytes : after ≡ placed at text before
-  pub next-place : next ≡ at + length text
 
 -- The counts of an advance's report.
 abbrev pub counts-of : DeltaReport → AdvanceCounts

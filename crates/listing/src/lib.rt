@@ -1,14 +1,15 @@
 // The lines of a listing, written into a lent output at a place. Each function returns the next place.
 ghost use mathlib.Core.Path.{_≡_};
 ghost use mathlib.Core.List.{[], _∷_};
-ghost use Prim.Native.Nat.{_+_, _≤_, _<_};
-ghost use lib.ListN.{length, drop};
+ghost use Prim.Native.Nat.{_+_, _≤_};
+ghost use lib.ListN.{length};
 ghost use Rattle.model.specs.Advance.{lineage-number, skip-number};
 ghost use Rattle.model.specs.Store.{opened, anchor-same, anchor-fresh, value, no-value, stored, waiting, answered};
-ghost use Rattle.call_list.specs.Listing.{ascii, digit, decimal, decimals, hex, u256-hex, slot-hex, line, refusal-line, report-lines};
-ghost use Rattle.listing.specs.Lines.{Written, carried-counts, cold-counts, counts-line};
+ghost use Rattle.call_list.specs.Listing.{ascii, decimal, decimals, slot-hex, line, refusal-line, report-lines};
+ghost use Rattle.digits.specs.Written.{Written};
+ghost use Rattle.listing.specs.Lines.{carried-counts, cold-counts, counts-line};
+use model::bal_prefetch::BalSkip;
 use model::delta_snapshot::Slot;
-use model::read_hub::BalSkip;
 use model::read_hub::CarryOutcome;
 use model::read_hub::Lineage;
 use model::storage_memo::U256;
@@ -25,110 +26,13 @@ pub struct AdvanceCounts {
     pub dropped: u64,
 }
 
-// A digit: 0 to 9, then a to f.
-fn digit(d: u64) -> u8
-    requires { ⌜ d < 16 ⌝ }
-    ensures { λ r. ⌜ r ≡ digit d ⌝ }
-{
-    if d < 10 { 48 + d as u8 } else { 87 + d as u8 }
-}
-
-// The bytes of a word.
-fn write_bytes(out: &mut [u8], at: usize, text: &[u8]) -> usize
-    requires { ⌜ at + length (now text) ≤ length (now out) ⌝ }
-    ensures { λ r. ⌜ Written at (now (text .entry)) (now (out .entry)) (now (out .exit)) r ⌝ }
-{
-    words::place(out, at, text);
-    at + text.len()
-}
-
-// A number in decimals at the end of a buffer; returns where it starts.
-fn fill_decimal(buffer: &mut [u8], n: u64) -> usize
-    requires { ⌜ length (now buffer) ≡ 20 ⌝ }
-    ensures { λ r. ⌜ (r < 20) × (drop r (now (buffer .exit)) ≡ decimal n) ⌝ }
-{
-    let mut k: usize = 20;
-    let mut rest = n;
-    while 10 <= rest {
-        k -= 1;
-        buffer[k] = digit(rest % 10);
-        rest /= 10;
-    }
-    k -= 1;
-    buffer[k] = digit(rest);
-    k
-}
-
-// A number in decimals.
-fn write_decimal(out: &mut [u8], at: usize, n: u64) -> usize
-    requires { ⌜ at + length (decimal n) ≤ length (now out) ⌝ }
-    ensures { λ r. ⌜ Written at (decimal n) (now (out .entry)) (now (out .exit)) r ⌝ }
-{
-    let mut buffer = [0u8; 20];
-    let start = fill_decimal(&mut buffer, n);
-    write_bytes(out, at, &buffer[start..])
-}
-
-// A number in n lower-case hex digits.
-fn write_hex(out: &mut [u8], at: usize, n: usize, x: u64) -> usize
-    requires { ⌜ at + n ≤ length (now out) ⌝ }
-    ensures { λ r. ⌜ Written at (hex n x) (now (out .entry)) (now (out .exit)) r ⌝ }
-{
-    let mut k = n;
-    let mut rest = x;
-    while 0 < k {
-        k -= 1;
-        out[at + k] = digit(rest % 16);
-        rest /= 16;
-    }
-    at + n
-}
-
-// A 32-byte number in 64 hex digits.
-fn write_u256(out: &mut [u8], at: usize, x: U256) -> usize
-    requires { ⌜ at + 64 ≤ length (now out) ⌝ }
-    ensures { λ r. ⌜ Written at (u256-hex x) (now (out .entry)) (now (out .exit)) r ⌝ }
-{
-    let second = write_hex(out, at, 16, x.w0);
-    let third = write_hex(out, second, 16, x.w1);
-    let fourth = write_hex(out, third, 16, x.w2);
-    write_hex(out, fourth, 16, x.w3)
-}
-
-fn wide(x: u32) -> u64
-    ensures { λ r. ⌜ r ≡ x ⌝ }
-{
-    x as u64
-}
-
-// A slot in 104 hex digits.
-fn write_slot(out: &mut [u8], at: usize, s: Slot) -> usize
-    requires { ⌜ at + 104 ≤ length (now out) ⌝ }
-    ensures { λ r. ⌜ Written at (slot-hex s) (now (out .entry)) (now (out .exit)) r ⌝ }
-{
-    let address = s.address;
-    let second = write_hex(out, at, 8, wide(address.w0));
-    let third = write_hex(out, second, 16, address.w1);
-    let index = write_hex(out, third, 16, address.w2);
-    write_u256(out, index, s.index)
-}
-
-// A blank, or the end of a line.
-fn write_byte(out: &mut [u8], at: usize, b: u8) -> usize
-    requires { ⌜ at < length (now out) ⌝ }
-    ensures { λ r. ⌜ Written at (b ∷ []) (now (out .entry)) (now (out .exit)) r ⌝ }
-{
-    out[at] = b;
-    at + 1
-}
-
 // A number with a blank before it.
 fn write_field(out: &mut [u8], at: usize, n: u64) -> usize
     requires { ⌜ at + 1 + length (decimal n) ≤ length (now out) ⌝ }
     ensures { λ r. ⌜ Written at (32 ∷ decimal n) (now (out .entry)) (now (out .exit)) r ⌝ }
 {
-    let next = write_byte(out, at, 32);
-    write_decimal(out, next, n)
+    let next = digits::write_byte(out, at, 32);
+    digits::write_decimal(out, next, n)
 }
 
 // A line of one word.
@@ -136,8 +40,8 @@ fn word_line(out: &mut [u8], at: usize, word: &[u8]) -> usize
     requires { ⌜ at + length (line (now word) []) ≤ length (now out) ⌝ }
     ensures { λ r. ⌜ Written at (line (now (word .entry)) []) (now (out .entry)) (now (out .exit)) r ⌝ }
 {
-    let end = write_bytes(out, at, word);
-    write_byte(out, end, 10)
+    let end = digits::write_bytes(out, at, word);
+    digits::write_byte(out, end, 10)
 }
 
 // A line of a word and numbers.
@@ -145,13 +49,13 @@ fn numbers_line(out: &mut [u8], at: usize, word: &[u8], numbers: &[u64]) -> usiz
     requires { ⌜ at + length (line (now word) (decimals (now numbers))) ≤ length (now out) ⌝ }
     ensures { λ r. ⌜ Written at (line (now (word .entry)) (decimals (now (numbers .entry)))) (now (out .entry)) (now (out .exit)) r ⌝ }
 {
-    let mut next = write_bytes(out, at, word);
+    let mut next = digits::write_bytes(out, at, word);
     let mut i = 0;
     while i < numbers.len() {
         next = write_field(out, next, numbers[i]);
         i += 1;
     }
-    write_byte(out, next, 10)
+    digits::write_byte(out, next, 10)
 }
 
 // `no` and a refusal's number.
@@ -208,9 +112,9 @@ pub fn value_line(out: &mut [u8], at: usize, v: U256) -> usize
     requires { ⌜ at + length (report-lines (value v)) ≤ length (now out) ⌝ }
     ensures { λ r. ⌜ Written at (report-lines (value v)) (now (out .entry)) (now (out .exit)) r ⌝ }
 {
-    let digits = write_bytes(out, at, b"value ");
-    let end = write_u256(out, digits, v);
-    write_byte(out, end, 10)
+    let digits = digits::write_bytes(out, at, b"value ");
+    let end = digits::write_u256(out, digits, v);
+    digits::write_byte(out, end, 10)
 }
 
 // `wait` and the slot's waiters.
@@ -236,9 +140,9 @@ pub fn slot_line(out: &mut [u8], at: usize, s: Slot) -> usize
     requires { ⌜ at + length (line (ascii "slot") (slot-hex s ∷ [])) ≤ length (now out) ⌝ }
     ensures { λ r. ⌜ Written at (line (ascii "slot") (slot-hex s ∷ [])) (now (out .entry)) (now (out .exit)) r ⌝ }
 {
-    let digits = write_bytes(out, at, b"slot ");
-    let end = write_slot(out, digits, s);
-    write_byte(out, end, 10)
+    let digits = digits::write_bytes(out, at, b"slot ");
+    let end = digits::write_slot(out, digits, s);
+    digits::write_byte(out, end, 10)
 }
 
 // `answer`, members, errors, woken.

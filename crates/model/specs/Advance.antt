@@ -9,8 +9,8 @@ use Rattle.model.specs.Slots.{Address, address-eqb, Value, LastUse, Hash
 use Rattle.model.specs.Layers.{Content, use-only, valued, Layer, find, held-value, freshest-use, insert, count-distinct, all-slots}
 pub use Rattle.model.specs.declared.read_hub.Lineage.{Lineage}
 pub use Rattle.model.specs.declared.read_hub.Lineage.the-variants.{Linked, NoParent, NotConsecutive, ParentHashUnknown, ParentHashMismatch}
-pub use Rattle.model.specs.declared.read_hub.BalSkip.{BalSkip}
-pub use Rattle.model.specs.declared.read_hub.BalSkip.the-variants.{Decoded, NoAnchorHash, Rpc, Decode}
+pub use Rattle.model.specs.declared.bal_prefetch.BalSkip.{BalSkip}
+pub use Rattle.model.specs.declared.bal_prefetch.BalSkip.the-variants.{Decoded, NoAnchorHash, Rpc, Decode}
 pub use Rattle.model.specs.declared.read_hub.CarryOutcome.{CarryOutcome}
 pub use Rattle.model.specs.declared.read_hub.CarryOutcome.the-variants.{AlreadyCurrent, Carried, Cold}
 

@@ -5,6 +5,7 @@ use mathlib.Core.List.{List, [], _∷_, map}
 use mathlib.Core.Option.{Option, some, none}
 use lib.Dec.{eqb, leb, ltb}
 use lib.ListN.{length}
+use Rattle.layout.specs.Layout.{record-width, records-index}
 use Rattle.model.specs.Slots.{Value, Slot, ReadAnchor, anchor-eqb, Retention}
 use Rattle.model.specs.Layers.{record-count, is-some}
 use Rattle.model.specs.Advance.{Write}
@@ -21,7 +22,7 @@ pub record Lent : Type 0 where
 -- The words of eight bytes that a store of a capacity has (docs/LAYOUT.md), and its bytes.
 -- An advance's work area needs as many: it holds the store that is to be.
 abbrev pub store-words : ℕ → ℕ
-store-words capacity = 856 + 13 * capacity
+store-words capacity = records-index + record-width * capacity
 
 abbrev pub store-size : ℕ → ℕ
 store-size capacity = 8 * store-words capacity

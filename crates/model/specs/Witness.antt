@@ -8,7 +8,7 @@ use mathlib.Core.Option.{some, none}
 use Rattle.model.specs.Slots.{Address, Hash, U256, Slot, slot-eqb, hash-eqb, Known, ReadAnchor, identified, IdleBlocks}
 use Rattle.model.specs.Advance.{Write, AppliedWrites, CarryOutcome, Carried, Cold, Linked, NoParent, ParentHashMismatch, Decoded, Rpc, CompactionReport, no-compaction}
 use Rattle.model.specs.Store.{AnchoredCall, get, put, read, take, answer, install, advance, at-anchor, Call, open-store, on-store, opened, anchor-fresh, advanced, value, stored, waiting, listed, answered}
-use Rattle.model.specs.Refusals.{LentCall, Answer, refuse, ok, trace, final}
+use Rattle.model.specs.Refusals.{store-size, work-size, LentCall, Answer, refuse, ok, trace, final}
 use Rattle.model.specs.TrueInputs.{Truth, TrueInputs, serves-value}
 use Rattle.model.specs.Demand3.{calls-of, refusal-flags}
 
@@ -58,7 +58,7 @@ fork-writes = record { slot = W; value = word 12 } ∷ record { slot = P; value 
 -- The run --------------------------------------------------------------------------------------------
 
 abbrev pub lent-call : Call → LentCall
-lent-call c = record { call = c; lent = record { store-bytes = 8512; work-bytes = 8512; output-entries = 2 } }
+lent-call c = record { call = c; lent = record { store-bytes = store-size 16; work-bytes = work-size 16; output-entries = 2 } }
 
 -- An advance to a canonical block, under a parent hash, and a call at a canonical block.
 abbrev pub next : ℕ → ℕ → Call

@@ -5,6 +5,7 @@ ghost use Rattle.model.specs.Demand3.{Demand3};
 ghost use Rattle.model.specs.Cases.{table, TwelveCases};
 ghost use Rattle.model.specs.Witness.{Witness};
 
+pub mod bal_prefetch;
 pub mod delta_snapshot;
 pub mod read_hub;
 pub mod storage_memo;

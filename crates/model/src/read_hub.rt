@@ -1,4 +1,5 @@
 // read_hub.rs: the outcome of an advance, and the totals of a generation's reads.
+use crate::bal_prefetch::BalSkip;
 
 // How a child stands to the installed anchor: linked, or the reason why not (the source's `CarryRefusal`).
 pub enum Lineage {
@@ -7,14 +8,6 @@ pub enum Lineage {
     NotConsecutive,
     ParentHashUnknown,
     ParentHashMismatch,
-}
-
-// Why a child's list of writes was not read, if it was not.
-pub enum BalSkip {
-    Decoded,
-    NoAnchorHash,
-    Rpc,
-    Decode,
 }
 
 // What an advance did.

@@ -1,2 +1,3 @@
 -- The index that the contracts of `order` cite.
 pub mod Index
+pub mod Walk

@@ -15,7 +15,7 @@ use Rattle.model.specs.declared.delta_snapshot.Retention.{Retention}
 use Rattle.model.specs.declared.delta_snapshot.Retention.the-variants.{Unbounded, IdleBlocks}
 use Rattle.model.proofs.SlotLaws.{and-intro}
 use Rattle.image.specs.WellFormed.{address-fits, slot-fits, retention-fits}
-use Rattle.known_advance.proofs.Ranges.{word-range, u256-range}
+use Rattle.unchecked_advance.proofs.Ranges.{word-range, u256-range}
 
 address-range : (a : Address) (vs : List Val) → Is address.the-row a vs → address-fits a ≡ true
 address-range a vs g =

@@ -1,4 +1,4 @@
--- The calls of the public functions (crates store, store_advance, store_reads) as data; that a call was made, and that several were, one after the other.
+-- The calls of the public functions (crate store) as data; that a call was made, and that several were, one after the other.
 use Prim.Native.Nat.{ℕ}
 use mathlib.Core.Path.{_≡_}
 use mathlib.Core.Bool.{true}
@@ -14,9 +14,9 @@ use Rattle.model.specs.Store.{Call, on-store, at-anchor}
 use Rattle.model.specs.Refusals.{Answer}
 use Rattle.image.specs.WellFormed.{u256-fits, slot-fits, anchor-fits, retention-fits}
 use Rattle.image.specs.Image.{BytesCall, bytes-step}
-use Rattle.known.specs.Answers.{alone, Stepped}
-use Rattle.known_reads.specs.Answers.{answer-step, with-output}
-use Rattle.known_advance.specs.Reports.{advance-call}
+use Rattle.unchecked_calls.specs.Answers.{alone, Stepped}
+use Rattle.unchecked_reads.specs.Answers.{answer-step, with-output}
+use Rattle.unchecked_advance.specs.Reports.{advance-call}
 
 -- A call of each public function with its arguments, the store's bytes apart: numbers, structs, and as lists of bytes what is lent to it.
 pub data PublicCall : Type 0 where

@@ -1,21 +1,21 @@
 // The public calls joined to demand 3. Each function but `demand_3` calls the public function of its name:
 // on every argument and every content of the bytes that is a call as the theorem takes it.
-use known::Installed;
-use known::Looked;
-use known::Opened;
-use known::PutAnswer;
-use known_advance::Advanced;
-use known_reads::AnswerAnswer;
-use known_reads::ReadAnswer;
-use known_reads::TakeAnswer;
 use model::delta_snapshot::Retention;
 use model::delta_snapshot::Slot;
 use model::storage_memo::B256;
 use model::storage_memo::ReadAnchor;
 use model::storage_memo::U256;
-ghost use Rattle.known.specs.Answers.{opened-answer, installed-answer, looked-answer, put-answer};
-ghost use Rattle.known_reads.specs.Answers.{read-answer, take-answer, answered-answer};
-ghost use Rattle.known_advance.specs.Reports.{advanced-answer};
+use unchecked_advance::Advanced;
+use unchecked_calls::Installed;
+use unchecked_calls::Looked;
+use unchecked_calls::Opened;
+use unchecked_calls::PutAnswer;
+use unchecked_reads::AnswerAnswer;
+use unchecked_reads::ReadAnswer;
+use unchecked_reads::TakeAnswer;
+ghost use Rattle.unchecked_calls.specs.Answers.{opened-answer, installed-answer, looked-answer, put-answer};
+ghost use Rattle.unchecked_reads.specs.Answers.{read-answer, take-answer, answered-answer};
+ghost use Rattle.unchecked_advance.specs.Reports.{advanced-answer};
 ghost use Rattle.public_calls.specs.PublicCalls as calls;
 ghost use Rattle.public_calls.specs.PublicCalls.{Made};
 ghost use Rattle.public_calls.specs.Demand3ForCalls.{DemandForCalls};
@@ -67,29 +67,29 @@ fn advance(
 ) -> Advanced
     ensures { λ r. ⌜ Made (calls.advance child «parent_hash» skip (now (addresses .entry)) (now (writes .entry)) (now (work .entry)) (now (out .entry))) (now (s .entry)) (now (s .exit)) (advanced-answer r (now (out .exit))) ⌝ }
 {
-    store_advance::advance(s, child, parent_hash, skip, addresses, writes, work, out)
+    store::advance(s, child, parent_hash, skip, addresses, writes, work, out)
 }
 
 fn read(s: &mut [u8], anchor: ReadAnchor, slot: Slot) -> ReadAnswer
     ensures { λ r. ⌜ Made (calls.read anchor slot) (now (s .entry)) (now (s .exit)) (read-answer r) ⌝ }
 {
-    store_reads::read(s, anchor, slot)
+    store::read(s, anchor, slot)
 }
 
 fn take(s: &mut [u8], anchor: ReadAnchor, out: &mut [u8]) -> TakeAnswer
     ensures { λ r. ⌜ Made (calls.take anchor (now (out .entry))) (now (s .entry)) (now (s .exit)) (take-answer r (now (out .exit))) ⌝ }
 {
-    store_reads::take(s, anchor, out)
+    store::take(s, anchor, out)
 }
 
 fn answer(s: &mut [u8], anchor: ReadAnchor, members: &[u8]) -> AnswerAnswer
     ensures { λ r. ⌜ Made (calls.answer anchor (now (members .entry))) (now (s .entry)) (now (s .exit)) (answered-answer r) ⌝ }
 {
-    store_reads::answer(s, anchor, members)
+    store::answer(s, anchor, members)
 }
 
 fn answer_failed(s: &mut [u8], anchor: ReadAnchor, slots: &[u8]) -> AnswerAnswer
     ensures { λ r. ⌜ Made (calls.answer-failed anchor (now (slots .entry))) (now (s .entry)) (now (s .exit)) (answered-answer r) ⌝ }
 {
-    store_reads::answer_failed(s, anchor, slots)
+    store::answer_failed(s, anchor, slots)
 }

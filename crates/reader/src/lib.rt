@@ -6,12 +6,11 @@ ghost use lib.Dec.{eqb, ltb};
 ghost use lib.ListN.{length, drop};
 ghost use Rattle.words.specs.Parts.{part};
 ghost use Rattle.call_list.specs.CallList.{number-from, parse-number, parse-form, parse-u256, parse-slot, parse-hash, parse-anchor};
-ghost use Rattle.model.specs.Entries.{u256-at, address-of, slot-of};
+ghost use Rattle.model.specs.Entries.{slot-of};
 ghost use Rattle.reader.specs.Answers.{Reading, entries-within, members-within, fixed-run, past-value, past-members, member-run, parse-run};
 ghost use Rattle.reader.specs.Answers.{number-answer, number-next, form-answer, form-next, word-answer, word-next, slot-answer, slot-next};
 ghost use Rattle.reader.specs.Answers.{anchor-answer, anchor-next, span-answer, span-next, passed-answer, passed-next};
 use model::delta_snapshot::Slot;
-use model::storage_memo::Address;
 use model::storage_memo::ReadAnchor;
 use model::storage_memo::U256;
 
@@ -140,40 +139,12 @@ pub fn read_form(s: &[u8], c: Cursor) -> Form
     Form::Value(b == 1, Cursor { at: at + 1 })
 }
 
-// The 32-byte number at a place.
-pub fn u256_at(s: &[u8], at: usize) -> U256
-    requires { ⌜ at + 32 ≤ length (now s) ⌝ }
-    ensures { λ r. ⌜ r ≡ u256-at 0 (part at 32 (now (s .entry))) ⌝ }
-{
-    U256 {
-        w0: words::read_u64(s, at),
-        w1: words::read_u64(s, at + 8),
-        w2: words::read_u64(s, at + 16),
-        w3: words::read_u64(s, at + 24),
-    }
-}
-
-// The address at a place.
-pub fn address_at(s: &[u8], at: usize) -> Address
-    requires { ⌜ at + 20 ≤ length (now s) ⌝ }
-    ensures { λ r. ⌜ r ≡ address-of (part at 20 (now (s .entry))) ⌝ }
-{
-    Address {
-        w0: words::half(s, at) as u32,
-        w1: words::read_u64(s, at + 4),
-        w2: words::read_u64(s, at + 12),
-    }
-}
-
 // The slot at a place.
 pub fn slot_at(s: &[u8], at: usize) -> Slot
     requires { ⌜ at + 52 ≤ length (now s) ⌝ }
     ensures { λ r. ⌜ r ≡ slot-of (part at 52 (now (s .entry))) ⌝ }
 {
-    Slot {
-        address: address_at(s, at),
-        index: u256_at(s, at + 20),
-    }
+    entries::read_slot(s, at)
 }
 
 // A 32-byte number.
@@ -185,7 +156,7 @@ pub fn read_u256(s: &[u8], c: Cursor) -> Word
     if s.len() - at < 32 {
         return Word::Fault(5, Cursor { at: s.len() });
     }
-    Word::Value(u256_at(s, at), Cursor { at: at + 32 })
+    Word::Value(entries::read_u256(s, at), Cursor { at: at + 32 })
 }
 
 // A slot.

@@ -6,9 +6,11 @@ use mathlib.Core.Option.{Option, some, none}
 use lib.ListN.{length}
 use Rattle.model.specs.declared.read_hub.ReadTotals.{ReadTotals}
 use Rattle.model.specs.Entries.{chunks}
-use Rattle.model.specs.Store.{Call, Generation, Memory, Report, opened, anchor-same, anchor-fresh, advanced, value, no-value, stored, waiting, listed, answered}
+use Rattle.model.specs.Store.{Generation, Memory, Report, opened, anchor-same, anchor-fresh, advanced, value, no-value, stored, waiting, listed, answered}
 use Rattle.model.specs.Refusals.{LentCall, StepResult, Answer, refuse, ok, step, installed-in}
 use Rattle.image.specs.Output.{output-after}
+use Rattle.call_list.specs.Listed.{ListedCall}
+use Rattle.call_list.specs.Meaning.{default-limits}
 use Rattle.call_list.specs.CallList.{Parsed, parsed, fault, parse-call, CallList, call-list}
 use Rattle.call_list.specs.Listing.{ascii, hex, line, decimals, answer-lines, end-line}
 use Rattle.call_list.specs.Calls.{lent-calls, calls-output}
@@ -59,7 +61,7 @@ detailed m [] = []
 detailed m (c ∷ cs) = let o : StepResult = step m c in answer-lines (o .answer) ++ (detail-lines (o .answer) (o .memory) ++ detailed (o .memory) cs)
 
 -- The bytes from the fault's byte on that ends a list, or none where the list is whole. k bytes have at most k calls.
-abbrev pub fault-or : Parsed Call → (List ℕ → Option (List ℕ)) → Option (List ℕ)
+abbrev pub fault-or : Parsed ListedCall → (List ℕ → Option (List ℕ)) → Option (List ℕ)
 fault-or (parsed c l) f = f l
 fault-or (fault n r) f = some r
 
@@ -79,7 +81,7 @@ place-line n (some r) = line (ascii "at") (decimals ((n - length r) ∷ []))
 unfoldable pub detailed-output : List ℕ → List ℕ
 detailed-output input =
     let l : CallList = call-list input in
-    detailed none (lent-calls (l .calls)) ++ (end-line (l .ends-with) ++ place-line (length input) (fault-from (length input) input))
+    detailed none (lent-calls default-limits (l .calls)) ++ (end-line (l .ends-with) ++ place-line (length input) (fault-from (length input) input))
 
 pub record RecordedAgree : Type 0 where
   pub listings : map (λ r. calls-output (r .bytes)) recorded-lists ≡ map (λ r. ascii (r .text)) recorded-lists

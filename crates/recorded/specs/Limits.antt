@@ -14,6 +14,7 @@ use Rattle.model.specs.Reads.{Pending}
 use Rattle.model.specs.Store.{AnchoredCall, read, take, advance, at-anchor, Call, on-store, Memory, listed}
 use Rattle.model.specs.Refusals.{Lent, Condition, work-size, conditions, refusal, refuse, ok}
 use Rattle.image.specs.Output.{output-after}
+use Rattle.call_list.specs.Meaning.{default-limits}
 use Rattle.call_list.specs.CallList.{call-list}
 use Rattle.call_list.specs.Calls.{program-lent, listing, calls-output}
 
@@ -77,9 +78,9 @@ pub record OutputAfter : Type 0 where
 
 -- `calls` takes lists of up to 65,536 bytes whole and nothing past them. It lends a work area of 33,472 bytes and an output of 1,024 entries.
 pub record CallsTakes : Type 0 where
-  pub whole-list : (input : List ℕ) → length input ≤ 65536 → calls-output input ≡ listing none (call-list input)
+  pub whole-list : (input : List ℕ) → length input ≤ 65536 → calls-output input ≡ listing default-limits none (call-list input)
   pub rest-ignored : (input rest : List ℕ) → 65536 ≤ length input → calls-output (input ++ rest) ≡ calls-output input
-  pub work-lent : program-lent .work-bytes ≡ 33472
+  pub work-lent : program-lent .work-bytes ≡ 36032
   pub entries-lent : program-lent .output-entries ≡ 1024
 
 pub record AtLimits : Type 0 where

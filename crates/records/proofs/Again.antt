@@ -7,6 +7,7 @@ use native.Mathlib.Omega.{arith}
 use lib.Dec.{eqb, lit<}
 use lib.ListN.{length, take, drop, getD, length-append, length-drop}
 use lib.Seq.{take-suc, drop-at, drop-drop, getD-drop}
+use Rattle.layout.specs.Layout.{record-size, record-width, slot-width}
 use Rattle.model.specs.declared.delta_snapshot.Slot.{Slot}
 use Rattle.model.specs.Numbers.{num, num-from, Bytes}
 use Rattle.model.specs.Slots.{u256-words, slot-eqb, slot-ltb}
@@ -50,21 +51,21 @@ fit-content : (ws : List ℕ) → ((i : ℕ) → getD ws i 0 < 2 ^ 64) → Fit (
 fit-content ws g =
     let z : _<_ 0 (2 ^ 64) = lit< tt in
     split (eqb (getD ws 1 0) 0)
-    (λ e. rw e (fit-cons (g 0) (fit-cons z (fit-cons z (fit-cons z (fit-cons z (fit-cons z fit-nil)))))))
-    (λ e. rw e (fit-cons (g 0) (fit-cons (lit< tt) (fit-value (drop 2 ws) (λ i. rw getD-drop (g (2 + i)))))))
+    (λ e. rw e (fit-cons (g 0) (fit-cons z (fit-cons z (fit-cons z (fit-cons z (fit-cons z (fit-cons z fit-nil))))))))
+    (λ e. rw e (fit-cons (g 0) (fit-cons (lit< tt) (fit-append (fit-value (drop 2 ws) (λ i. rw getD-drop (g (2 + i)))) (fit-cons z fit-nil)))))
 
 fit-record : (ws : List ℕ) → ((i : ℕ) → getD ws i 0 < 2 ^ 64) → Fit (record-words (read-record ws))
 fit-record ws g =
     fit-append (fit-cons (g 0) (fit-cons (g 1) (fit-cons (g 2) (fit-value (drop 3 ws) (λ i. rw getD-drop (g (3 + i)))))))
-    (fit-content (drop 7 ws) (λ i. rw getD-drop (g (7 + i))))
+    (fit-content (drop slot-width ws) (λ i. rw getD-drop (g (slot-width + i))))
 
 -- The words of records that were read.
-pub fit-read : (n : ℕ) (s : List ℕ) → Bytes s → n * 104 ≤ length s → Fit (all-record-words (records-of n s))
+pub fit-read : (n : ℕ) (s : List ℕ) → Bytes s → n * record-size ≤ length s → Fit (all-record-words (records-of n s))
 unfolding all-record-words
 fit-read zero s f h = rw records-none fit-nil
 fit-read (suc n) s f h =
-    let k : n * 104 ≤ length (drop 104 s) = rw length-drop (omega arith) in
-    rw records-more (fit-append (fit-record (words-of 13 s) (fit-get (fit-words 13 s f (omega arith)))) (fit-read n (drop 104 s) (λ j. rw getD-drop (f (104 + j))) k))
+    let k : n * record-size ≤ length (drop record-size s) = rw length-drop (omega arith) in
+    rw records-more (fit-append (fit-record (words-of record-width s) (fit-get (fit-words record-width s f (omega arith)))) (fit-read n (drop record-size s) (λ j. rw getD-drop (f (record-size + j))) k))
 
 fit-first : (xs ys : List ℕ) → Fit (xs ++ ys) → Fit xs
 fit-first [] ys p = fit-nil
@@ -89,10 +90,10 @@ pub records-back : (l : Layer) (s : List ℕ) → Fit (all-record-words l) → r
 unfolding records-of with-records
 records-back l s f =
     let w = all-record-words l in
-    let d = drop (104 * length l) s in
-    let e : 13 * length l ≡ length w = sym (length-records l) in
-    ap (λ (k : ℕ). map read-record (entries 13 (length l) (words-of k (bytes-of w ++ d)))) e
-    ∙ ap (λ (x : List ℕ). map read-record (entries 13 (length l) x)) (words-of-bytes d f ∙ sym (append-nil w))
+    let d = drop (record-size * length l) s in
+    let e : record-width * length l ≡ length w = sym (length-records l) in
+    ap (λ (k : ℕ). map read-record (entries record-width (length l) (words-of k (bytes-of w ++ d)))) e
+    ∙ ap (λ (x : List ℕ). map read-record (entries record-width (length l) x)) (words-of-bytes d f ∙ sym (append-nil w))
     ∙ read-records l []
 
 -- Records over at most as many others.
@@ -100,18 +101,18 @@ pub with-more : (k l : Layer) (s : List ℕ) → length l ≤ length k → with-
 unfolding with-records
 with-more k l s h =
     let x = bytes-of (all-record-words l) in
-    let d = drop (104 * length l) s in
-    let m = 104 * length k - 104 * length l in
-    let e : 104 * length k ≡ 104 * length l + m = omega arith in
-    let n : length x ≡ 104 * length l = omega (arith, length-bytes-of (all-record-words l), length-records l) in
+    let d = drop (record-size * length l) s in
+    let m = record-size * length k - record-size * length l in
+    let e : record-size * length k ≡ record-size * length l + m = omega arith in
+    let n : length x ≡ record-size * length l = omega (arith, length-bytes-of (all-record-words l), length-records l) in
     ap (λ (y : List ℕ). bytes-of (all-record-words k) ++ y)
-    (ap (λ (j : ℕ). drop j (x ++ d)) e ∙ sym (drop-drop m (104 * length l) (x ++ d)) ∙ ap (drop m) (drop-at x d (104 * length l) n) ∙ drop-drop m (104 * length l) s ∙ ap (λ (j : ℕ). drop j s) (sym e))
+    (ap (λ (j : ℕ). drop j (x ++ d)) e ∙ sym (drop-drop m (record-size * length l) (x ++ d)) ∙ ap (drop m) (drop-at x d (record-size * length l) n) ∙ drop-drop m (record-size * length l) s ∙ ap (λ (j : ℕ). drop j s) (sym e))
 
-pub length-with : (l : Layer) (s : List ℕ) → length l * 104 ≤ length s → length (with-records l s) ≡ length s
+pub length-with : (l : Layer) (s : List ℕ) → length l * record-size ≤ length s → length (with-records l s) ≡ length s
 unfolding with-records
 length-with l s h =
-    length-append (bytes-of (all-record-words l)) (drop (104 * length l) s)
-    ∙ omega (arith, length-bytes-of (all-record-words l), length-records l, length-drop (104 * length l) s)
+    length-append (bytes-of (all-record-words l)) (drop (record-size * length l) s)
+    ∙ omega (arith, length-bytes-of (all-record-words l), length-records l, length-drop (record-size * length l) s)
 
 -- The bytes are exactly those of the records set, as `Ready` asks.
 pub exact-again : (l : Layer) (s : List ℕ) → Fit (all-record-words l) → with-records (records-of (length l) (with-records l s)) (with-records l s) ≡ with-records l s

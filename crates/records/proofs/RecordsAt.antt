@@ -7,6 +7,7 @@ use native.Mathlib.Omega.{arith}
 use lib.Dec.{eqb}
 use lib.ListN.{length, drop, getD}
 use lib.Seq.{drop-drop}
+use Rattle.layout.specs.Layout.{has-index, last-use-index, record-size, record-width, slot-width, value-index}
 use Rattle.model.specs.declared.storage_memo.U256.{U256}
 use Rattle.model.specs.Numbers.{num}
 use Rattle.model.specs.Layers.{Content, use-only, valued, Record}
@@ -17,12 +18,12 @@ use Rattle.records.specs.Records.{words-at, record-at}
 use Rattle.records.proofs.Slots.{words-take, words-drop}
 
 -- The first record, and those after it.
-pub records-more : (n : ℕ) (s : List ℕ) → records-of (suc n) s ≡ read-record (words-of 13 s) ∷ records-of n (drop 104 s)
+pub records-more : (n : ℕ) (s : List ℕ) → records-of (suc n) s ≡ read-record (words-of record-width s) ∷ records-of n (drop record-size s)
 unfolding records-of entries
 records-more n s =
-    let e : 13 * suc n ≡ 13 + 13 * n = omega arith in
-    ap (λ (k : ℕ). map read-record (entries 13 (suc n) (words-of k s))) e
-    ∙ ap₂ (λ (x y : List ℕ). read-record x ∷ map read-record (entries 13 n y)) (words-take 13 (13 * n) s) (words-drop 13 (13 * n) s)
+    let e : record-width * suc n ≡ record-width + record-width * n = omega arith in
+    ap (λ (k : ℕ). map read-record (entries record-width (suc n) (words-of k s))) e
+    ∙ ap₂ (λ (x y : List ℕ). read-record x ∷ map read-record (entries record-width n y)) (words-take record-width (record-width * n) s) (words-drop record-width (record-width * n) s)
 
 pub records-none : (s : List ℕ) → records-of 0 s ≡ []
 unfolding records-of entries
@@ -30,26 +31,26 @@ records-none s = refl
 
 pub records-length : (n : ℕ) (s : List ℕ) → length (records-of n s) ≡ n
 records-length zero s = ap length (records-none s)
-records-length (suc n) s = ap length (records-more n s) ∙ ap suc (records-length n (drop 104 s))
+records-length (suc n) s = ap length (records-more n s) ∙ ap suc (records-length n (drop record-size s))
 
--- Record i is the one in its 13 words.
+-- Record i is the one in its words.
 pub record-words-at : (n i : ℕ) (s : List ℕ) → i < n → record-at i (records-of n s) ≡ read-record (words-at i s)
 record-words-at zero i s h = absurd (omega arith)
 record-words-at (suc n) zero s h = ap (record-at 0) (records-more n s)
 record-words-at (suc n) (suc i) s h =
-    let e : 104 + i * 104 ≡ suc i * 104 = omega arith in
-    ap (record-at (suc i)) (records-more n s) ∙ record-words-at n i (drop 104 s) (omega arith) ∙ ap (λ (l : List ℕ). read-record (words-of 13 l)) (drop-drop (i * 104) 104 s ∙ ap (λ (k : ℕ). drop k s) e)
+    let e : record-size + i * record-size ≡ suc i * record-size = omega arith in
+    ap (record-at (suc i)) (records-more n s) ∙ record-words-at n i (drop record-size s) (omega arith) ∙ ap (λ (l : List ℕ). read-record (words-of record-width l)) (drop-drop (i * record-size) record-size s ∙ ap (λ (k : ℕ). drop k s) e)
 
 -- A slot takes the first seven words.
-pub slot-of-record : (b : List ℕ) → read-slot (words-of 7 b) ≡ read-slot (words-of 13 b)
+pub slot-of-record : (b : List ℕ) → read-slot (words-of slot-width b) ≡ read-slot (words-of record-width b)
 unfolding words-of
 slot-of-record b = refl
 
-pub slot-at-place : (n i : ℕ) (s : List ℕ) → i < n → read-slot (words-of 7 (drop (i * 104) s)) ≡ record-at i (records-of n s) .slot
-slot-at-place n i s h = slot-of-record (drop (i * 104) s) ∙ ap (λ (r : Record). r .slot) (sym (record-words-at n i s h))
+pub slot-at-place : (n i : ℕ) (s : List ℕ) → i < n → read-slot (words-of slot-width (drop (i * record-size) s)) ≡ record-at i (records-of n s) .slot
+slot-at-place n i s h = slot-of-record (drop (i * record-size) s) ∙ ap (λ (r : Record). r .slot) (sym (record-words-at n i s h))
 
 -- Its first word, which `slot_at` asks to fit 32 bits.
-pub first-word-at : (n i : ℕ) (s : List ℕ) → i < n → num (part (i * 104) 8 s) ≡ record-at i (records-of n s) .slot .address .w0
+pub first-word-at : (n i : ℕ) (s : List ℕ) → i < n → num (part (i * record-size) 8 s) ≡ record-at i (records-of n s) .slot .address .w0
 unfolding words-of
 first-word-at n i s h = ap (λ (r : Record). r .slot .address .w0) (sym (record-words-at n i s h))
 
@@ -62,10 +63,10 @@ pick-content : (b : Bool) (u : ℕ) (v : U256) → cond b (use-only u) (valued u
 pick-content true u v = refl
 pick-content false u v = refl
 
-content-fields : (b : List ℕ) → let w = words-of 13 b in read-content (drop 7 w) ≡ content-of (getD w 7 0) (not (eqb (getD w 8 0) 0)) (read-u256 (drop 9 w))
+content-fields : (b : List ℕ) → let w = words-of record-width b in read-content (drop slot-width w) ≡ content-of (getD w last-use-index 0) (not (eqb (getD w has-index 0) 0)) (read-u256 (drop value-index w))
 unfolding words-of
-content-fields b = let w = words-of 13 b in pick-content (eqb (getD w 8 0) 0) (getD w 7 0) (read-u256 (drop 9 w))
+content-fields b = let w = words-of record-width b in pick-content (eqb (getD w has-index 0) 0) (getD w last-use-index 0) (read-u256 (drop value-index w))
 
 pub content-at : (n i : ℕ) (s : List ℕ) → i < n
-    → record-at i (records-of n s) .content ≡ content-of (getD (words-at i s) 7 0) (not (eqb (getD (words-at i s) 8 0) 0)) (read-u256 (drop 9 (words-at i s)))
-content-at n i s h = ap (λ (r : Record). r .content) (record-words-at n i s h) ∙ content-fields (drop (i * 104) s)
+    → record-at i (records-of n s) .content ≡ content-of (getD (words-at i s) last-use-index 0) (not (eqb (getD (words-at i s) has-index 0) 0)) (read-u256 (drop value-index (words-at i s)))
+content-at n i s h = ap (λ (r : Record). r .content) (record-words-at n i s h) ∙ content-fields (drop (i * record-size) s)

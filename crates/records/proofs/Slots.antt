@@ -9,6 +9,7 @@ use lib.Dec.{eqb, ltb}
 use lib.ListN.{take, drop, getD}
 use lib.Seq.{drop-drop}
 use borrow.Author.Tests.{eq-eqb, ne-eqb, le-ltb}
+use Rattle.layout.specs.Layout.{record-size, slot-width, value-index, value-offset}
 use Rattle.model.specs.declared.delta_snapshot.Slot.{Slot}
 use Rattle.model.specs.Numbers.{num}
 use Rattle.model.specs.Slots.{slot-words, words-eqb, words-ltb, slot-eqb, slot-ltb}
@@ -34,13 +35,13 @@ words-from at s =
     num (part at 8 s) ∷ num (part (at + 8) 8 s) ∷ num (part (at + 16) 8 s) ∷ num (part (at + 24) 8 s) ∷ num (part (at + 32) 8 s) ∷ num (part (at + 40) 8 s)
     ∷ num (part (at + 48) 8 s) ∷ []
 
-pub slot-read : (at : ℕ) (s : List ℕ) → words-of 7 (drop at s) ≡ words-from at s
+pub slot-read : (at : ℕ) (s : List ℕ) → words-of slot-width (drop at s) ≡ words-from at s
 unfolding words-of
 slot-read at s = simp (drop-drop, add-assoc)
 
-four-words : (at : ℕ) (s : List ℕ) → words-of 4 (drop at s) ≡ num (part at 8 s) ∷ num (part (at + 8) 8 s) ∷ num (part (at + 16) 8 s) ∷ num (part (at + 24) 8 s) ∷ []
+five-words : (at : ℕ) (s : List ℕ) → words-of 5 (drop at s) ≡ num (part at 8 s) ∷ num (part (at + 8) 8 s) ∷ num (part (at + 16) 8 s) ∷ num (part (at + 24) 8 s) ∷ num (part (at + 32) 8 s) ∷ []
 unfolding words-of
-four-words at s = simp (drop-drop, add-assoc)
+five-words at s = simp (drop-drop, add-assoc)
 
 -- The first k of some words, and those after them.
 pub words-take : (k n : ℕ) (b : List ℕ) → take k (words-of (k + n) b) ≡ words-of k b
@@ -55,14 +56,15 @@ words-drop (suc k) n b =
     let e : 8 + 8 * k ≡ 8 * suc k = omega arith in
     rw suc-add (words-drop k n (drop 8 b) ∙ ap (words-of n) (drop-drop (8 * k) 8 b ∙ ap (λ (m : ℕ). drop m b) e))
 
-value-words : (i : ℕ) (s : List ℕ) → words-of 4 (drop (i * 104 + 72) s) ≡ drop 9 (words-at i s)
-value-words i s = ap (words-of 4) (sym (drop-drop 72 (i * 104) s)) ∙ sym (words-drop 9 4 (drop (i * 104) s))
+-- From the value on: its four words, and one more.
+value-words : (i : ℕ) (s : List ℕ) → words-of 5 (drop (i * record-size + value-offset) s) ≡ drop value-index (words-at i s)
+value-words i s = ap (words-of 5) (sym (drop-drop value-offset (i * record-size) s)) ∙ sym (words-drop value-index 5 (drop (i * record-size) s))
 
 -- How a list of words stands to another of as many, the highest first.
 unfoldable pub words-order : List ℕ → List ℕ → Order
 words-order xs ys = cond (words-eqb xs ys) Equal (cond (words-ltb xs ys) Less Greater)
 
-pub slot-order-words : (at : ℕ) (s : List ℕ) (t : Slot) → words-order (words-from at s) (slot-words t) ≡ slot-order (read-slot (words-of 7 (drop at s))) t
+pub slot-order-words : (at : ℕ) (s : List ℕ) (t : Slot) → words-order (words-from at s) (slot-words t) ≡ slot-order (read-slot (words-of slot-width (drop at s))) t
 unfolding words-order slot-order slot-eqb slot-ltb
 slot-order-words at s t = sym (ap (λ (l : List ℕ). slot-order (read-slot l) t) (slot-read at s))
 
@@ -84,14 +86,14 @@ words-end = refl
 -- A slot, and a value, of words read one by one.
 pub slot-taken : (at : ℕ) (s : List ℕ) {a0 a1 a2 a3 a4 a5 a6 : ℕ}
     → a0 ≡ num (part at 8 s) → a1 ≡ num (part (at + 8) 8 s) → a2 ≡ num (part (at + 16) 8 s) → a3 ≡ num (part (at + 24) 8 s) → a4 ≡ num (part (at + 32) 8 s)
-    → a5 ≡ num (part (at + 40) 8 s) → a6 ≡ num (part (at + 48) 8 s) → read-slot (a0 ∷ a1 ∷ a2 ∷ a3 ∷ a4 ∷ a5 ∷ a6 ∷ []) ≡ read-slot (words-of 7 (drop at s))
+    → a5 ≡ num (part (at + 40) 8 s) → a6 ≡ num (part (at + 48) 8 s) → read-slot (a0 ∷ a1 ∷ a2 ∷ a3 ∷ a4 ∷ a5 ∷ a6 ∷ []) ≡ read-slot (words-of slot-width (drop at s))
 slot-taken at s e0 e1 e2 e3 e4 e5 e6 = (λ i. read-slot (e0 i ∷ e1 i ∷ e2 i ∷ e3 i ∷ e4 i ∷ e5 i ∷ e6 i ∷ [])) ∙ ap read-slot (sym (slot-read at s))
 
 pub value-taken : (i : ℕ) (s : List ℕ) {a0 a1 a2 a3 : ℕ}
-    → a0 ≡ num (part (i * 104 + 72) 8 s) → a1 ≡ num (part (i * 104 + 72 + 8) 8 s) → a2 ≡ num (part (i * 104 + 72 + 16) 8 s) → a3 ≡ num (part (i * 104 + 72 + 24) 8 s)
-    → read-u256 (a0 ∷ a1 ∷ a2 ∷ a3 ∷ []) ≡ read-u256 (drop 9 (words-at i s))
+    → a0 ≡ num (part (i * record-size + value-offset) 8 s) → a1 ≡ num (part (i * record-size + value-offset + 8) 8 s) → a2 ≡ num (part (i * record-size + value-offset + 16) 8 s) → a3 ≡ num (part (i * record-size + value-offset + 24) 8 s)
+    → read-u256 (a0 ∷ a1 ∷ a2 ∷ a3 ∷ []) ≡ read-u256 (drop value-index (words-at i s))
 value-taken i s e0 e1 e2 e3 =
-    let at = i * 104 + 72 in
-    let f : words-of 4 (drop at s) ≡ drop 9 (words-at i s) = value-words i s in
-    let g : words-of 4 (drop at s) ≡ num (part at 8 s) ∷ num (part (at + 8) 8 s) ∷ num (part (at + 16) 8 s) ∷ num (part (at + 24) 8 s) ∷ [] = four-words at s in
+    let at = i * record-size + value-offset in
+    let f : words-of 5 (drop at s) ≡ drop value-index (words-at i s) = value-words i s in
+    let g : words-of 5 (drop at s) ≡ num (part at 8 s) ∷ num (part (at + 8) 8 s) ∷ num (part (at + 16) 8 s) ∷ num (part (at + 24) 8 s) ∷ num (part (at + 32) 8 s) ∷ [] = five-words at s in
     (λ j. read-u256 (e0 j ∷ e1 j ∷ e2 j ∷ e3 j ∷ [])) ∙ ap read-u256 (sym g ∙ f)

@@ -5,6 +5,7 @@ use mathlib.Core.List.{List, [], _∷_, _++_, append-assoc, append-nil}
 use native.Mathlib.Omega.{arith}
 use lib.ListN.{length, take, drop, length-append, length-drop, take-append-drop}
 use lib.Seq.{take-at, drop-at, drop-cons, drop-drop, length-take-le}
+use Rattle.layout.specs.Layout.{content-size, last-use-offset, record-size, slot-size}
 use Rattle.model.specs.declared.delta_snapshot.Slot.{Slot}
 use Rattle.model.specs.Slots.{slot-words}
 use Rattle.model.specs.Layers.{Content, Record, Layer}
@@ -34,21 +35,21 @@ image-cons : (r : Record) (l : Layer) → image-of (r ∷ l) ≡ bytes-of (recor
 unfolding all-record-words
 image-cons r l = bytes-append (record-words r) (all-record-words l)
 
-length-image : (l : Layer) → length (image-of l) ≡ 104 * length l
+length-image : (l : Layer) → length (image-of l) ≡ record-size * length l
 length-image l = omega (arith, length-bytes-of (all-record-words l), length-records l)
 
-length-record : (r : Record) → length (bytes-of (record-words r)) ≡ 104
+length-record : (r : Record) → length (bytes-of (record-words r)) ≡ record-size
 unfolding all-record-words bytes-of
 length-record r = ap length (sym (append-nil (bytes-of (record-words r))) ∙ sym (image-cons r [])) ∙ length-image (r ∷ [])
 
 -- Bytes that begin with records, cut between two of them.
-front : (k l : Layer) (rest s : List ℕ) (m : ℕ) → image-of (k ++ l) ++ rest ≡ s → m ≡ 104 * length k → take m s ≡ image-of k
+front : (k l : Layer) (rest s : List ℕ) (m : ℕ) → image-of (k ++ l) ++ rest ≡ s → m ≡ record-size * length k → take m s ≡ image-of k
 front k l rest s m e h =
     let f : image-of k ++ (image-of l ++ rest) ≡ s = sym (append-assoc (image-of k) (image-of l) rest) ∙ ap (λ (x : List ℕ). x ++ rest) (sym (image-append k l)) ∙ e in
     let n : length (image-of k) ≡ m = length-image k ∙ sym h in
     ap (take m) (sym f) ∙ take-at (image-of k) (image-of l ++ rest) m n
 
-back : (k l : Layer) (rest s : List ℕ) (m : ℕ) → image-of (k ++ l) ++ rest ≡ s → m ≡ 104 * length k → drop m s ≡ image-of l ++ rest
+back : (k l : Layer) (rest s : List ℕ) (m : ℕ) → image-of (k ++ l) ++ rest ≡ s → m ≡ record-size * length k → drop m s ≡ image-of l ++ rest
 back k l rest s m e h =
     let f : image-of k ++ (image-of l ++ rest) ≡ s = sym (append-assoc (image-of k) (image-of l) rest) ∙ ap (λ (x : List ℕ). x ++ rest) (sym (image-append k l)) ∙ e in
     let n : length (image-of k) ≡ m = length-image k ∙ sym h in
@@ -58,66 +59,66 @@ back k l rest s m e h =
 
 module _ (l : Layer) (s : List ℕ) (exact : with-records l s ≡ s) where
   -- the same, cut before record i
-  cut-at : (i : ℕ) → image-of (take i l ++ drop i l) ++ drop (104 * length l) s ≡ s
+  cut-at : (i : ℕ) → image-of (take i l ++ drop i l) ++ drop (record-size * length l) s ≡ s
   unfolding with-records
-  cut-at i = ap (λ (x : Layer). image-of x ++ drop (104 * length l) s) (take-append-drop i l) ∙ exact
+  cut-at i = ap (λ (x : Layer). image-of x ++ drop (record-size * length l) s) (take-append-drop i l) ∙ exact
 
-  front-at : (i : ℕ) → i ≤ length l → take (i * 104) s ≡ image-of (take i l)
+  front-at : (i : ℕ) → i ≤ length l → take (i * record-size) s ≡ image-of (take i l)
   front-at i h =
       let n : length (take i l) ≡ i = length-take-le i l h in
-      front (take i l) (drop i l) (drop (104 * length l) s) s (i * 104) (cut-at i) (omega arith)
+      front (take i l) (drop i l) (drop (record-size * length l) s) s (i * record-size) (cut-at i) (omega arith)
 
-  back-at : (i : ℕ) → i ≤ length l → drop (i * 104) s ≡ image-of (drop i l) ++ drop (104 * length l) s
+  back-at : (i : ℕ) → i ≤ length l → drop (i * record-size) s ≡ image-of (drop i l) ++ drop (record-size * length l) s
   back-at i h =
       let n : length (take i l) ≡ i = length-take-le i l h in
-      back (take i l) (drop i l) (drop (104 * length l) s) s (i * 104) (cut-at i) (omega arith)
+      back (take i l) (drop i l) (drop (record-size * length l) s) s (i * record-size) (cut-at i) (omega arith)
 
   -- the bytes of record i
-  record-part : (i : ℕ) → i < length l → part (i * 104) 104 s ≡ bytes-of (record-words (record-at i l))
+  record-part : (i : ℕ) → i < length l → part (i * record-size) record-size s ≡ bytes-of (record-words (record-at i l))
   record-part i h =
       let r = record-at i l in
       let k = drop (suc i) l in
-      let d = drop (104 * length l) s in
-      ap (take 104) (back-at i (omega arith)
+      let d = drop (record-size * length l) s in
+      ap (take record-size) (back-at i (omega arith)
       ∙ ap (λ (x : Layer). image-of x ++ d) (drop-cons l i (read-record []) h)
       ∙ ap (λ (x : List ℕ). x ++ d) (image-cons r k) ∙ append-assoc (bytes-of (record-words r)) (image-of k) d)
-      ∙ take-at (bytes-of (record-words r)) (image-of k ++ d) 104 (length-record r)
+      ∙ take-at (bytes-of (record-words r)) (image-of k ++ d) record-size (length-record r)
 
   -- record i replaced
-  pub replaced : (i : ℕ) (r : Record) → i < length l → placed (i * 104) (bytes-of (record-words r)) s ≡ with-records (take i l ++ (r ∷ drop (i + 1) l)) s
+  pub replaced : (i : ℕ) (r : Record) → i < length l → placed (i * record-size) (bytes-of (record-words r)) s ≡ with-records (take i l ++ (r ∷ drop (i + 1) l)) s
   unfolding with-records
   replaced i r h =
       let a = take i l in
       let k = drop (i + 1) l in
       let b = bytes-of (record-words r) in
-      let d = drop (104 * length l) s in
+      let d = drop (record-size * length l) s in
       let n : length a ≡ i = length-take-le i l (omega arith) in
       let m : length k ≡ length l - (i + 1) = length-drop (i + 1) l in
       let q : length (a ++ (r ∷ k)) ≡ length l = length-append a (r ∷ k) ∙ omega arith in
-      let g : i * 104 + length b ≡ (i + 1) * 104 = omega (arith, length-record r) in
-      let left : placed (i * 104) b s ≡ image-of a ++ b ++ (image-of k ++ d) =
+      let g : i * record-size + length b ≡ (i + 1) * record-size = omega (arith, length-record r) in
+      let left : placed (i * record-size) b s ≡ image-of a ++ b ++ (image-of k ++ d) =
       ap₂ (λ (x y : List ℕ). x ++ b ++ y) (front-at i (omega arith)) (ap (λ (j : ℕ). drop j s) g ∙ back-at (i + 1) (omega arith)) in
       let right : with-records (a ++ (r ∷ k)) s ≡ image-of a ++ (b ++ image-of k) ++ d =
-      ap₂ (λ (x : List ℕ) (j : ℕ). x ++ drop (104 * j) s) (image-append a (r ∷ k) ∙ ap (λ (x : List ℕ). image-of a ++ x) (image-cons r k)) q in
+      ap₂ (λ (x : List ℕ) (j : ℕ). x ++ drop (record-size * j) s) (image-append a (r ∷ k) ∙ ap (λ (x : List ℕ). image-of a ++ x) (image-cons r k)) q in
       let mid : image-of a ++ b ++ (image-of k ++ d) ≡ image-of a ++ (b ++ image-of k) ++ d = simp append-assoc in
       left ∙ mid ∙ sym right
 
   -- a record put before record i
   pub between : (i n : ℕ) (r : Record) → n ≡ length l → i ≤ n
-      → take (i * 104) s ++ bytes-of (record-words r) ++ part (i * 104) ((n - i) * 104) s ++ drop ((n + 1) * 104) s ≡ with-records (take i l ++ (r ∷ drop i l)) s
+      → take (i * record-size) s ++ bytes-of (record-words r) ++ part (i * record-size) ((n - i) * record-size) s ++ drop ((n + 1) * record-size) s ≡ with-records (take i l ++ (r ∷ drop i l)) s
   unfolding with-records
   between i n r e h =
       let a = take i l in
       let k = drop i l in
       let b = bytes-of (record-words r) in
-      let d = drop (104 * length l) s in
-      let z = drop ((n + 1) * 104) s in
+      let d = drop (record-size * length l) s in
+      let z = drop ((n + 1) * record-size) s in
       let f : length a ≡ i = length-take-le i l (omega arith) in
       let m : length k ≡ length l - i = length-drop i l in
-      let q : 104 * length (a ++ (r ∷ k)) ≡ (n + 1) * 104 = ap (λ (j : ℕ). 104 * j) (length-append a (r ∷ k)) ∙ omega arith in
-      let p : part (i * 104) ((n - i) * 104) s ≡ image-of k =
-      ap (take ((n - i) * 104)) (back-at i (omega arith)) ∙ take-at (image-of k) d ((n - i) * 104) (length-image k ∙ omega arith) in
-      let left : take (i * 104) s ++ b ++ part (i * 104) ((n - i) * 104) s ++ z ≡ image-of a ++ b ++ image-of k ++ z =
+      let q : record-size * length (a ++ (r ∷ k)) ≡ (n + 1) * record-size = ap (λ (j : ℕ). record-size * j) (length-append a (r ∷ k)) ∙ omega arith in
+      let p : part (i * record-size) ((n - i) * record-size) s ≡ image-of k =
+      ap (take ((n - i) * record-size)) (back-at i (omega arith)) ∙ take-at (image-of k) d ((n - i) * record-size) (length-image k ∙ omega arith) in
+      let left : take (i * record-size) s ++ b ++ part (i * record-size) ((n - i) * record-size) s ++ z ≡ image-of a ++ b ++ image-of k ++ z =
       ap₂ (λ (x y : List ℕ). x ++ b ++ y ++ z) (front-at i (omega arith)) p in
       let right : with-records (a ++ (r ∷ k)) s ≡ image-of a ++ (b ++ image-of k) ++ z =
       ap₂ (λ (x : List ℕ) (j : ℕ). x ++ drop j s) (image-append a (r ∷ k) ∙ ap (λ (x : List ℕ). image-of a ++ x) (image-cons r k)) q in
@@ -125,20 +126,20 @@ module _ (l : Layer) (s : List ℕ) (exact : with-records l s ≡ s) where
       left ∙ mid ∙ sym right
 
   -- the content of record i replaced, of which v is the new beginning
-  pub content-replaced : (i : ℕ) (t : Slot) (c : Content) (v : List ℕ) → i < length l → (104 * length l) ≤ length s → record-at i l .slot ≡ t → length v ≤ 48
+  pub content-replaced : (i : ℕ) (t : Slot) (c : Content) (v : List ℕ) → i < length l → (record-size * length l) ≤ length s → record-at i l .slot ≡ t → length v ≤ content-size
       → v ++ drop (length v) (bytes-of (content-words (record-at i l .content))) ≡ bytes-of (content-words c)
-      → placed (i * 104 + 56) v s ≡ with-records (take i l ++ (record { slot = t; content = c } ∷ drop (i + 1) l)) s
+      → placed (i * record-size + last-use-offset) v s ≡ with-records (take i l ++ (record { slot = t; content = c } ∷ drop (i + 1) l)) s
   content-replaced i t c v h room e g f =
       let r = record-at i l in
       let x = bytes-of (slot-words (r .slot)) in
       let y = bytes-of (content-words (r .content)) in
-      let p : part (i * 104) 104 s ≡ x ++ y = record-part i h ∙ bytes-append (slot-words (r .slot)) (content-words (r .content)) in
-      let n : length x ≡ 56 = length-bytes-of (slot-words (r .slot)) in
-      let q : drop (56 + length v) (x ++ y) ≡ drop (length v) y = sym (drop-drop (length v) 56 (x ++ y)) ∙ ap (drop (length v)) (drop-at x y 56 n) in
-      let w : placed 56 v (x ++ y) ≡ x ++ bytes-of (content-words c) = ap₂ (λ (a b : List ℕ). a ++ v ++ b) (take-at x y 56 n) q ∙ append-assoc x v (drop (length v) y) ∙ ap (λ (b : List ℕ). x ++ b) f in
+      let p : part (i * record-size) record-size s ≡ x ++ y = record-part i h ∙ bytes-append (slot-words (r .slot)) (content-words (r .content)) in
+      let n : length x ≡ slot-size = length-bytes-of (slot-words (r .slot)) in
+      let q : drop (slot-size + length v) (x ++ y) ≡ drop (length v) y = sym (drop-drop (length v) slot-size (x ++ y)) ∙ ap (drop (length v)) (drop-at x y slot-size n) in
+      let w : placed last-use-offset v (x ++ y) ≡ x ++ bytes-of (content-words c) = ap₂ (λ (a b : List ℕ). a ++ v ++ b) (take-at x y slot-size n) q ∙ append-assoc x v (drop (length v) y) ∙ ap (λ (b : List ℕ). x ++ b) f in
       let o : x ++ bytes-of (content-words c) ≡ bytes-of (record-words (record { slot = t; content = c })) =
       sym (bytes-append (slot-words (r .slot)) (content-words c)) ∙ ap (λ (u : Slot). bytes-of (slot-words u ++ content-words c)) e in
-      placed-field (i * 104) 56 104 v s (omega arith) (omega arith)
-      ∙ ap (λ (b : List ℕ). placed (i * 104) (placed 56 v b) s) p
-      ∙ ap (λ (b : List ℕ). placed (i * 104) b s) (w ∙ o)
+      placed-field (i * record-size) last-use-offset record-size v s (omega arith) (omega arith)
+      ∙ ap (λ (b : List ℕ). placed (i * record-size) (placed last-use-offset v b) s) p
+      ∙ ap (λ (b : List ℕ). placed (i * record-size) b s) (w ∙ o)
       ∙ replaced i (record { slot = t; content = c }) h

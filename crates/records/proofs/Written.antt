@@ -5,6 +5,7 @@ use mathlib.Core.List.{List, [], _∷_, _++_, append-assoc, append-nil}
 use native.Mathlib.Omega.{arith}
 use lib.ListN.{length, take, drop, length-append, length-take, length-drop}
 use lib.Seq.{take-at, drop-at, drop-drop, length-take-le}
+use Rattle.layout.specs.Layout.{record-size, record-width, slot-size, slot-width}
 use Rattle.model.specs.Numbers.{be}
 use Rattle.model.proofs.NumberLaws.{length-be}
 use Rattle.words.specs.Parts.{part, placed}
@@ -38,7 +39,7 @@ one-word : (at w : ℕ) (s : List ℕ) {t : List ℕ} → t ≡ placed at (be 8 
 unfolding bytes-of
 one-word at w s e = rw append-nil e
 
-word-more : (at k w : ℕ) (ws s : List ℕ) {t u : List ℕ} → k ≡ 8 * length ws → at + k + 8 ≤ length s → t ≡ placed at (bytes-of ws) s → u ≡ placed (at + k) (be 8 w) t
+pub word-more : (at k w : ℕ) (ws s : List ℕ) {t u : List ℕ} → k ≡ 8 * length ws → at + k + 8 ≤ length s → t ≡ placed at (bytes-of ws) s → u ≡ placed (at + k) (be 8 w) t
     → u ≡ placed at (bytes-of (ws ++ (w ∷ []))) s
 unfolding bytes-of
 word-more at k w ws s g h e f =
@@ -67,15 +68,15 @@ module _ (at w0 w1 w2 w3 w4 w5 : ℕ) (s : List ℕ) {t0 t1 t2 t3 t4 t5 : List �
 length-moved : (at len by : ℕ) (s : List ℕ) → at + by + len ≤ length s → length (moved at len by s) ≡ length s
 length-moved at len by s h = simp (length-append, length-take, length-drop) (omega arith)
 
-pub record-put : (at len : ℕ) (xs ys s : List ℕ) {t0 t1 t2 : List ℕ} → length xs ≡ 7 → length ys ≡ 6 → at + 104 + len ≤ length s
-    → t0 ≡ moved at len 104 s → t1 ≡ placed at (bytes-of xs) t0 → t2 ≡ placed (at + 56) (bytes-of ys) t1
-    → t2 ≡ take at s ++ bytes-of (xs ++ ys) ++ part at len s ++ drop (at + 104 + len) s
+pub record-put : (at len : ℕ) (xs ys s : List ℕ) {t0 t1 t2 : List ℕ} → length xs ≡ slot-width → length ys ≡ record-width - slot-width → at + record-size + len ≤ length s
+    → t0 ≡ moved at len record-size s → t1 ≡ placed at (bytes-of xs) t0 → t2 ≡ placed (at + slot-size) (bytes-of ys) t1
+    → t2 ≡ take at s ++ bytes-of (xs ++ ys) ++ part at len s ++ drop (at + record-size + len) s
 record-put at len xs ys s m n h e f g =
     let x = bytes-of xs in
     let y = bytes-of ys in
-    let z = moved at len 104 s in
-    let i : at + 56 ≡ at + length x = omega (arith, length-bytes-of xs) in
-    let j : at + 56 + length y ≤ length z = omega (arith, length-bytes-of ys, length-moved at len 104 s h) in
-    let k : length (bytes-of (xs ++ ys)) ≡ 104 = length-bytes-of (xs ++ ys) ∙ omega (arith, length-append xs ys) in
-    g ∙ ap (placed (at + 56) y) (f ∙ ap (placed at x) e) ∙ placed-after at (at + 56) x y z i j
-    ∙ ap (λ (v : List ℕ). placed at v z) (sym (bytes-append xs ys)) ∙ gap-filled at len 104 (bytes-of (xs ++ ys)) s k h
+    let z = moved at len record-size s in
+    let i : at + slot-size ≡ at + length x = omega (arith, length-bytes-of xs) in
+    let j : at + slot-size + length y ≤ length z = omega (arith, length-bytes-of ys, length-moved at len record-size s h) in
+    let k : length (bytes-of (xs ++ ys)) ≡ record-size = length-bytes-of (xs ++ ys) ∙ omega (arith, length-append xs ys) in
+    g ∙ ap (placed (at + slot-size) y) (f ∙ ap (placed at x) e) ∙ placed-after at (at + slot-size) x y z i j
+    ∙ ap (λ (v : List ℕ). placed at v z) (sym (bytes-append xs ys)) ∙ gap-filled at len record-size (bytes-of (xs ++ ys)) s k h

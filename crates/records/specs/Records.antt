@@ -1,13 +1,14 @@
 -- What the functions over a run of records say: the order of two slots, the place of a slot, a record's words.
-use Prim.Native.Nat.{ℕ, suc, _+_, _*_, _≤_}
+use Prim.Native.Nat.{ℕ, suc, _+_, _*_, _≤_, _<_}
 use mathlib.Core.Path.{_≡_}
 use mathlib.Core.Bool.{true, cond}
 use mathlib.Core.List.{List, [], _∷_}
 use lib.ListN.{length, drop, getD}
+use Rattle.layout.specs.Layout.{record-size, record-width, slot-width}
 use Rattle.model.specs.declared.delta_snapshot.Slot.{Slot}
 use Rattle.model.specs.Slots.{slot-eqb, slot-ltb}
 use Rattle.model.specs.Layers.{Record, Layer}
-use Rattle.image.specs.Image.{words-of, read-record}
+use Rattle.image.specs.Image.{words-of, read-slot, read-record}
 use Rattle.image.specs.WellFormed.{rising}
 use Rattle.image.specs.Area.{records-of, with-records}
 use Rattle.records.specs.declared.Order.{Order}
@@ -33,9 +34,15 @@ abbrev pub count-after : Found → ℕ → ℕ
 count-after (At i) n = n
 count-after (Absent i) n = n + 1
 
--- The 13 words of record i.
+-- Records whose slots stand in bytes, each at the beginning of an entry of `wide` bytes, and rise.
+pub record Entries (wide n : ℕ) (s : List ℕ) (l : Layer) : Type 0 where
+  pub count-is : length l ≡ n
+  pub slots-are : (i : ℕ) → i < n → read-slot (words-of slot-width (drop (i * wide) s)) ≡ getD l i (read-record []) .slot
+  pub rises : rising l ≡ true
+
+-- The words of record i.
 abbrev pub words-at : ℕ → List ℕ → List ℕ
-words-at i s = words-of 13 (drop (i * 104) s)
+words-at i s = words-of record-width (drop (i * record-size) s)
 
 -- Record i of a list. Past its end there is none, and every word is 0.
 abbrev pub record-at : ℕ → Layer → Record
@@ -45,7 +52,7 @@ record-at i l = getD l i (read-record [])
 pub record Ready (place : Found) (t : Slot) (n : ℕ) (s : List ℕ) : Type 0 where
   pub rises : rising (records-of n s) ≡ true
   pub place-is : place ≡ place-in t (records-of n s)
-  pub room : count-after place n * 104 ≤ length s
+  pub room : count-after place n * record-size ≤ length s
   pub exact : with-records (records-of n s) s ≡ s
 
 -- What it leaves: the number of the records, and the bytes, which begin with them.

@@ -1,13 +1,14 @@
-// Records of 104 bytes in a slice: a slot, its last use, and its value or none. They rise by slot.
+// Records in a slice: a slot, its last use, and its value or none. They rise by slot.
 use model::delta_snapshot::Slot;
 use model::storage_memo::Address;
 use model::storage_memo::U256;
 ghost use mathlib.Core.Path.{_≡_};
 ghost use mathlib.Core.Bool.{true, not, cond};
 ghost use Prim.Native.Nat.{_+_, _-_, _*_, _≤_, _<_, _^_};
-ghost use mathlib.Core.List.{_∷_, _++_};
+ghost use mathlib.Core.List.{[], _∷_, _++_};
 ghost use lib.Dec.{eqb, ltb};
 ghost use lib.ListN.{length, take, drop, getD};
+ghost use Rattle.layout.specs.Layout.{content-size, has-index, last-use-index, record-size, slot-size, slot-width, value-index};
 ghost use Rattle.model.specs.Numbers.{num};
 ghost use Rattle.model.specs.Slots.{slot-words, u256-words};
 ghost use Rattle.model.specs.Layers as layers;
@@ -15,7 +16,7 @@ ghost use Rattle.words.specs.Parts.{part, placed};
 ghost use Rattle.image.specs.Image.{words-of, bytes-of, read-u256, read-slot};
 ghost use Rattle.image.specs.WellFormed.{rising};
 ghost use Rattle.image.specs.Area.{records-of};
-ghost use Rattle.records.specs.Records.{slot-order, place-in, words-at, Ready, Holds};
+ghost use Rattle.records.specs.Records.{slot-order, place-in, Entries, words-at, Ready, Holds};
 
 // How a slot stands to another.
 pub enum Order {
@@ -32,8 +33,8 @@ pub enum Found {
 
 // The slot in the seven words at `at`.
 pub fn slot_at(s: &[u8], at: usize) -> Slot
-    requires { ⌜ (at + 56 ≤ length (now s)) × (num (part at 8 (now s)) < 2 ^ 32) ⌝ }
-    ensures { λ r. ⌜ r ≡ read-slot (words-of 7 (drop at (now (s .entry)))) ⌝ }
+    requires { ⌜ (at + slot-size ≤ length (now s)) × (num (part at 8 (now s)) < 2 ^ 32) ⌝ }
+    ensures { λ r. ⌜ r ≡ read-slot (words-of slot-width (drop at (now (s .entry)))) ⌝ }
 {
     Slot {
         address: Address {
@@ -66,8 +67,8 @@ fn unequal(a: u64, b: u64) -> Order
 // How the slot in the seven words at `at` stands to `slot`: the first word that differs decides.
 // The last two words are read together, so that the compiler puts the last read in place too.
 pub fn compare(s: &[u8], at: usize, slot: Slot) -> Order
-    requires { ⌜ at + 56 ≤ length (now s) ⌝ }
-    ensures { λ r. ⌜ r ≡ slot-order (read-slot (words-of 7 (drop at (now (s .entry))))) slot ⌝ }
+    requires { ⌜ at + slot-size ≤ length (now s) ⌝ }
+    ensures { λ r. ⌜ r ≡ slot-order (read-slot (words-of slot-width (drop at (now (s .entry))))) slot ⌝ }
 {
     let a = words::read_u64(s, at);
     let b = wide(slot.address.w0);
@@ -103,26 +104,26 @@ pub fn compare(s: &[u8], at: usize, slot: Slot) -> Order
 
 // The last use of record i.
 pub fn last_use(s: &[u8], i: usize) -> u64
-    requires { ⌜ (i + 1) * 104 ≤ length (now s) ⌝ }
-    ensures { λ r. ⌜ r ≡ getD (words-at i (now (s .entry))) 7 0 ⌝ }
+    requires { ⌜ (i + 1) * record-size ≤ length (now s) ⌝ }
+    ensures { λ r. ⌜ r ≡ getD (words-at i (now (s .entry))) last-use-index 0 ⌝ }
 {
-    words::read_u64(s, i * 104 + 56)
+    words::read_u64(s, i * layout::RECORD_SIZE + layout::LAST_USE_OFFSET)
 }
 
 // Whether record i has a value.
 pub fn has_value(s: &[u8], i: usize) -> bool
-    requires { ⌜ (i + 1) * 104 ≤ length (now s) ⌝ }
-    ensures { λ r. ⌜ r ≡ not (eqb (getD (words-at i (now (s .entry))) 8 0) 0) ⌝ }
+    requires { ⌜ (i + 1) * record-size ≤ length (now s) ⌝ }
+    ensures { λ r. ⌜ r ≡ not (eqb (getD (words-at i (now (s .entry))) has-index 0) 0) ⌝ }
 {
-    words::read_u64(s, i * 104 + 64) != 0
+    words::read_u64(s, i * layout::RECORD_SIZE + layout::HAS_OFFSET) != 0
 }
 
 // The value of record i.
 pub fn value(s: &[u8], i: usize) -> U256
-    requires { ⌜ (i + 1) * 104 ≤ length (now s) ⌝ }
-    ensures { λ r. ⌜ r ≡ read-u256 (drop 9 (words-at i (now (s .entry)))) ⌝ }
+    requires { ⌜ (i + 1) * record-size ≤ length (now s) ⌝ }
+    ensures { λ r. ⌜ r ≡ read-u256 (drop value-index (words-at i (now (s .entry)))) ⌝ }
 {
-    let at = i * 104 + 72;
+    let at = i * layout::RECORD_SIZE + layout::VALUE_OFFSET;
     U256 {
         w0: words::read_u64(s, at),
         w1: words::read_u64(s, at + 8),
@@ -133,7 +134,7 @@ pub fn value(s: &[u8], i: usize) -> U256
 
 // Writes a slot's seven words at `at`.
 pub fn write_slot(s: &mut [u8], at: usize, slot: Slot)
-    requires { ⌜ at + 56 ≤ length (now s) ⌝ }
+    requires { ⌜ at + slot-size ≤ length (now s) ⌝ }
     ensures { λ _. ⌜ now (s .exit) ≡ placed at (bytes-of (slot-words slot)) (now (s .entry)) ⌝ }
 {
     words::write_u64(s, at, wide(slot.address.w0));
@@ -145,10 +146,10 @@ pub fn write_slot(s: &mut [u8], at: usize, slot: Slot)
     words::write_u64(s, at + 48, slot.index.w3);
 }
 
-// Writes a last use, a flag and a value at `at`.
+// Writes a last use, a flag, a value and no second use at `at`.
 fn write_content(s: &mut [u8], at: usize, used: u64, flag: u64, value: U256)
-    requires { ⌜ at + 48 ≤ length (now s) ⌝ }
-    ensures { λ _. ⌜ now (s .exit) ≡ placed at (bytes-of (used ∷ flag ∷ u256-words value)) (now (s .entry)) ⌝ }
+    requires { ⌜ at + content-size ≤ length (now s) ⌝ }
+    ensures { λ _. ⌜ now (s .exit) ≡ placed at (bytes-of (used ∷ flag ∷ (u256-words value ++ (0 ∷ [])))) (now (s .entry)) ⌝ }
 {
     words::write_u64(s, at, used);
     words::write_u64(s, at + 8, flag);
@@ -156,18 +157,19 @@ fn write_content(s: &mut [u8], at: usize, used: u64, flag: u64, value: U256)
     words::write_u64(s, at + 24, value.w1);
     words::write_u64(s, at + 32, value.w2);
     words::write_u64(s, at + 40, value.w3);
+    words::write_u64(s, at + 48, 0);
 }
 
-// The place of a slot among the n records that s begins with, by halves.
-pub fn find(s: &[u8], n: usize, slot: Slot) -> Found
-    requires { ⌜ (n * 104 ≤ length (now s)) × (rising (records-of n (now s)) ≡ true) ⌝ }
-    ensures { λ r. ⌜ r ≡ place-in slot (records-of n (now (s .entry))) ⌝ }
+// The place of a slot among n entries of `wide` bytes each, which begin with their slots and rise, by halves.
+pub fn search(s: &[u8], wide: usize, n: usize, slot: Slot) -> Found
+    requires { ⌜ (slot-size ≤ wide) × (n * wide ≤ length (now s)) ⌝ }
+    ensures { λ r. ⌜ ((l : layers.Layer) → Entries wide n (now (s .entry)) l → r ≡ place-in slot l) ⌝ }
 {
     let mut lo = 0;
     let mut hi = n;
     while lo < hi {
         let mid = lo + (hi - lo) / 2;
-        match compare(s, mid * 104, slot) {
+        match compare(s, mid * wide, slot) {
             Order::Less => {
                 lo = mid + 1;
             }
@@ -180,14 +182,33 @@ pub fn find(s: &[u8], n: usize, slot: Slot) -> Found
     Found::Absent(lo)
 }
 
+// The place of a slot among the n records that s begins with.
+pub fn find(s: &[u8], n: usize, slot: Slot) -> Found
+    requires { ⌜ (n * record-size ≤ length (now s)) × (rising (records-of n (now s)) ≡ true) ⌝ }
+    ensures { λ r. ⌜ r ≡ place-in slot (records-of n (now (s .entry))) ⌝ }
+{
+    search(s, layout::RECORD_SIZE, n, slot)
+}
+
 // Puts a record before record i of the n that s begins with.
 fn insert_at(s: &mut [u8], n: usize, i: usize, slot: Slot, used: u64, flag: u64, value: U256)
-    requires { ⌜ (i ≤ n) × ((n + 1) * 104 ≤ length (now s)) ⌝ }
-    ensures { λ _. ⌜ now (s .exit) ≡ take (i * 104) (now (s .entry)) ++ bytes-of (slot-words slot ++ (used ∷ flag ∷ u256-words value)) ++ part (i * 104) ((n - i) * 104) (now (s .entry)) ++ drop ((n + 1) * 104) (now (s .entry)) ⌝ }
+    requires { ⌜ (i ≤ n) × ((n + 1) * record-size ≤ length (now s)) ⌝ }
+    ensures { λ _. ⌜ now (s .exit) ≡ take (i * record-size) (now (s .entry)) ++ bytes-of (slot-words slot ++ (used ∷ flag ∷ (u256-words value ++ (0 ∷ [])))) ++ part (i * record-size) ((n - i) * record-size) (now (s .entry)) ++ drop ((n + 1) * record-size) (now (s .entry)) ⌝ }
 {
-    words::move_up(s, i * 104, (n - i) * 104, 104);
-    write_slot(s, i * 104, slot);
-    write_content(s, i * 104 + 56, used, flag, value);
+    words::move_up(
+        s,
+        i * layout::RECORD_SIZE,
+        (n - i) * layout::RECORD_SIZE,
+        layout::RECORD_SIZE,
+    );
+    write_slot(s, i * layout::RECORD_SIZE, slot);
+    write_content(
+        s,
+        i * layout::RECORD_SIZE + layout::LAST_USE_OFFSET,
+        used,
+        flag,
+        value,
+    );
 }
 
 // Sets a slot's record, which stands or goes at `place`, to a last use and a value; the number of records then.
@@ -197,7 +218,13 @@ pub fn settle(s: &mut [u8], n: usize, place: Found, slot: Slot, value: U256, use
 {
     match place {
         Found::At(i) => {
-            write_content(s, i * 104 + 56, used, 1, value);
+            write_content(
+                s,
+                i * layout::RECORD_SIZE + layout::LAST_USE_OFFSET,
+                used,
+                1,
+                value,
+            );
             n
         }
         Found::Absent(i) => {
@@ -214,7 +241,7 @@ pub fn touch(s: &mut [u8], n: usize, place: Found, slot: Slot, used: u64) -> usi
 {
     match place {
         Found::At(i) => {
-            words::write_u64(s, i * 104 + 56, used);
+            words::write_u64(s, i * layout::RECORD_SIZE + layout::LAST_USE_OFFSET, used);
             n
         }
         Found::Absent(i) => {

@@ -1,8 +1,5 @@
 -- The laws behind the contracts of `rules`, and what the rules mean for layers.
-pub mod PartLaws
 pub mod FieldLaws
-pub mod CountLaws
-pub mod WalkLaws
 pub mod GroupLaws
 pub mod RuleLaws
 pub mod LayerLaws

@@ -9,6 +9,7 @@ use lib.Dec.{leb, ltb, eqb}
 use lib.ListN.{length, take, drop, getD, length-map, List·getD-map}
 use lib.Seq.{take-suc, drop-cons, drop-length, length-take-le}
 use borrow.Author.Tests.{eqb-true, eq-eqb, ltb-true, ltb-false, le-leb, lt-leb, le-ltb, not-true}
+use Rattle.layout.specs.Layout.{record-size, record-width}
 use Rattle.model.specs.declared.delta_snapshot.Slot.{Slot}
 use Rattle.model.specs.declared.delta_snapshot.Retention.{Retention}
 use Rattle.model.specs.declared.delta_snapshot.Retention.the-variants.{Unbounded, IdleBlocks}
@@ -24,9 +25,10 @@ use Rattle.order.proofs.NumberLaws.{slot-eqb-number}
 use Rattle.order.proofs.RecordLaws.{Bytes, length-records-of, record-at, fit-slot-at}
 use Rattle.image.specs.Image.{words-of, read-record}
 use Rattle.order.specs.Index.{slot-at}
-use Rattle.rules.specs.Rules.{group, newest-value, freshest, rule, rules-from, cross-rules, use-of, has-value, oldest-use, broken}
-use Rattle.rules.proofs.CountLaws.{mem, count, count-none, count-zero}
-use Rattle.rules.proofs.WalkLaws.{along, walk, walk-says}
+use Rattle.order.specs.Walk.{use-of, has-value}
+use Rattle.rules.specs.Rules.{group, newest-value, freshest, rule, rules-from, cross-rules, oldest-use, broken}
+use Rattle.order.proofs.CountLaws.{mem, count, count-none, count-zero}
+use Rattle.order.proofs.WalkLaws.{along, walk, walk-says}
 use Rattle.rules.proofs.GroupLaws.{group-append, newest-snoc, freshest-snoc, use-of-valued}
 
 -- One record ------------------------------------------------------------------------------------------------------
@@ -269,12 +271,12 @@ module _ (R : Retention) (now top : ℕ) (rs : Layer) (fit : (k : ℕ) → k < l
       absurd (true≢false (sym (all-ruled (length rs) 0 (omega arith) f) ∙ e)))
       (λ d. d ∙ sym e))
 
-pub fit-record : (k : ℕ) (s : List ℕ) → Bytes s → k * 104 + 104 ≤ length s → Fit (slot-words (read-record (words-of 13 (drop (k * 104) s)) .slot))
+pub fit-record : (k : ℕ) (s : List ℕ) → Bytes s → k * record-size + record-size ≤ length s → Fit (slot-words (read-record (words-of record-width (drop (k * record-size) s)) .slot))
 unfolding slot-at
 fit-record k s b h = fit-slot-at k s b h
 
 -- The walk over an index of the records that bytes begin with.
-pub rules-say : (R : Retention) (now top n : ℕ) (s ix : List ℕ) → Bytes s → n * 104 ≤ length s → Ordered (numbers n s) (up-from 0 n) ix
+pub rules-say : (R : Retention) (now top n : ℕ) (s ix : List ℕ) → Bytes s → n * record-size ≤ length s → Ordered (numbers n s) (up-from 0 n) ix
     → eqb (walk (meets (oldest-use R now) now top (records-of n s)) unmet (λ m. m .bad) (numbers n s) unmet ix) 0 ≡ cross-rules R now top (records-of n s)
 unfolding numbers
 rules-say R now top n s ix b h o =

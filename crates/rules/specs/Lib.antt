@@ -1,3 +1,2 @@
 -- The rules across layers, and the walk over an index: what the contracts of `rules` cite.
 pub mod Rules
-pub mod Walk

@@ -9,7 +9,7 @@ use Rattle.model.specs.declared.delta_snapshot.Slot.{Slot}
 use Rattle.model.specs.declared.delta_snapshot.Retention.{Retention}
 use Rattle.model.specs.declared.delta_snapshot.Retention.the-variants.{Unbounded, IdleBlocks}
 use Rattle.model.specs.Slots.{Value, LastUse, slot-eqb}
-use Rattle.model.specs.Layers.{Content, use-only, valued, Record, Layer, last-use-of, value-of, or-else, max-option, held-value, freshest-use}
+use Rattle.model.specs.Layers.{Record, Layer, last-use-of, value-of, or-else, max-option, held-value, freshest-use}
 use Rattle.image.specs.WellFormed.{every, rising, content-ok, top-content-ok}
 
 -- The records of a slot, in their order: the lowest layer's first.
@@ -54,15 +54,6 @@ all-content-ok now [] = true
 all-content-ok now (l ∷ ls) = every (λ s c. content-ok now (held-value s ls) (freshest-use s ls) c) l && all-content-ok now ls
 
 -- How a record is held against them --------------------------------------------------------------------------
-
--- A record's last use, and whether it has a value.
-abbrev pub use-of : Content → LastUse
-use-of (use-only u) = u
-use-of (valued u v) = u
-
-abbrev pub has-value : Content → Bool
-has-value (use-only u) = false
-has-value (valued u v) = true
 
 -- The oldest last use that serves at `now`.
 abbrev pub oldest-use : Retention → ℕ → ℕ

@@ -9,6 +9,7 @@ use lib.ListN.{length, take, drop, replicate, length-drop}
 use lib.Seq.{drop-at, take-all}
 use borrow.Author.Tests.{lt-ltb, le-ltb}
 use borrow.Rule.Slice.PartMut.{putMid}
+use Rattle.layout.specs.Layout.{max-depth-offset, record-size, records-offset}
 use Rattle.model.specs.declared.storage_memo.ReadAnchor.{ReadAnchor}
 use Rattle.model.specs.declared.delta_snapshot.Retention.{Retention}
 use Rattle.model.specs.Numbers.{Bytes}
@@ -46,13 +47,13 @@ base-rises b h = chain-rises (generation-of b .anchor .number) (generation-of b 
 
 -- The part from the records on, as it is lent.
 abbrev area : List ℕ → List ℕ
-area b = take (length b - 6848) (drop 6848 b)
+area b = take (length b - records-offset) (drop records-offset b)
 
-area-is : (b : List ℕ) → area b ≡ drop 6848 b
-area-is b = take-all (length b - 6848) (drop 6848 b) (omega (arith, length-drop 6848 b))
+area-is : (b : List ℕ) → area b ≡ drop records-offset b
+area-is b = take-all (length b - records-offset) (drop records-offset b) (omega (arith, length-drop records-offset b))
 
-pub length-part : (b : List ℕ) → length (area b) ≡ length b - 6848
-length-part b = ap length (area-is b) ∙ length-drop 6848 b
+pub length-part : (b : List ℕ) → length (area b) ≡ length b - records-offset
+length-part b = ap length (area-is b) ∙ length-drop records-offset b
 
 -- The records that it begins with are the base's, as they stand.
 base-reads : (b : List ℕ) (n : ℕ) → Bytes b → Installed b → n ≡ record-count (generation-of b .base) → records-of n (area b) ≡ flat-records (generation-of b .base)
@@ -61,15 +62,15 @@ base-reads b n f h e =
     let g : Generation = generation-of b in
     let cap : ℕ = store-of b .config .capacity in
     let rs : List Record = flat-records (g .base) in
-    let z : List ℕ = replicate (104 * (cap - (length rs + length (g .top)))) 0 in
+    let z : List ℕ = replicate (record-size * (cap - (length rs + length (g .top)))) 0 in
     let q : List ℕ = (bytes-in (g .top) ++ z) ++ drop (store-size cap) b in
     let split : area b ≡ bytes-in rs ++ q =
     area-is b ∙ records-rest b f h ∙ ap (λ (l : List ℕ). l ++ drop (store-size cap) b) (two-layers cap rs (g .top)) ∙ append-assoc (bytes-in rs) (bytes-in (g .top) ++ z) (drop (store-size cap) b) in
-    let whole : area b ≡ with-records rs (area b) = split ∙ ap (λ (l : List ℕ). bytes-in rs ++ l) (sym (ap (drop (104 * length rs)) split ∙ drop-at (bytes-in rs) q (104 * length rs) (length-in rs))) in
+    let whole : area b ≡ with-records rs (area b) = split ∙ ap (λ (l : List ℕ). bytes-in rs ++ l) (sym (ap (drop (record-size * length rs)) split ∙ drop-at (bytes-in rs) q (record-size * length rs) (length-in rs))) in
     ap₂ records-of (e ∙ sym (length-flat (g .base))) whole ∙ records-back rs (area b) (fit-chain (g .anchor .number) (g .base) (base-right b h))
 
 -- What a fold asks for.
-pub fold-asks : (b : List ℕ) (n : ℕ) → Installed b → n ≡ record-count (generation-of b .base) → (n * 104 ≤ length (area b)) × (n ≤ 4096)
+pub fold-asks : (b : List ℕ) (n : ℕ) → Installed b → n ≡ record-count (generation-of b .base) → (n * record-size ≤ length (area b)) × (n ≤ 4096)
 unfolding record-count
 fold-asks b n h e =
     let w : GenerationBytes b (store-of b) (generation-of b) = generation-in b h in
@@ -77,7 +78,7 @@ fold-asks b n h e =
     (omega (arith, length-part b, w .store .long), omega (arith, w .store .capacity-limit))
 
 -- There is room in the work area for as many records as the base has, and fewer of them with the top are within the capacity.
-pub fold-room : (b w : List ℕ) (n : ℕ) → Installed b → n ≡ record-count (generation-of b .base) → store-size (store-of b .config .capacity) ≤ length w → 6848 + n * 104 ≤ length w
+pub fold-room : (b w : List ℕ) (n : ℕ) → Installed b → n ≡ record-count (generation-of b .base) → store-size (store-of b .config .capacity) ≤ length w → records-offset + n * record-size ≤ length w
 unfolding record-count
 fold-room b w n h e k =
     let few : length (generation-of b .top) + record-count (generation-of b .base) ≤ store-of b .config .capacity = generation-in b h .facts .few-records in
@@ -112,9 +113,9 @@ module _ (s : List ℕ) (R : Retention) (number base left dropped : ℕ) (f : By
   report-is merged em = (λ i. record { merged = em i; left = el i; dropped = ed i }) ∙ sym (ap (λ (k : Compaction). k .report) fold-is)
 
   pub compacted-by : (w : List ℕ) (child : ReadAnchor) (top : ℕ) {x y ys u v : List ℕ} → top ≡ length (g .top)
-      → x ≡ bytes-of (header-words (store-of s .config) child 0 0 []) ++ drop 6848 w
+      → x ≡ bytes-of (header-words (store-of s .config) child 0 0 []) ++ drop records-offset w
       → ys ≡ with-records (folded R number rs) (area x)
-      → y ≡ putMid 6848 (length x - 6848) x ys
+      → y ≡ putMid records-offset (length x - records-offset) x ys
       → u ≡ topped-up left (store-of s .config .capacity) (g .top) y
       → v ≡ cond (eqb left 0) (with-layer 0 (left + top) u) (with-layer 1 (left + top) (with-layer 0 left u))
       → v ≡ overlay (begun-on (store-of s .config) child (seal (g .top) (compact (store-of s .config .retention) (g .anchor .number) (g .base) .base))) w
@@ -130,7 +131,7 @@ due-is : (s : List ℕ) (due : Bool) → ltb (store-of s .config .max-depth) (le
 unfolding compact-base
 due-is s due e = ap (λ (t : Bool). compact-if t (store-of s .config .retention) (generation-of s .anchor .number) (generation-of s .base)) (sym e)
 
-module _ (s : List ℕ) (limit n : ℕ) (h : Installed s) (p : limit ≡ word 16 s) (q : n ≡ length (generation-of s .base)) where
+module _ (s : List ℕ) (limit n : ℕ) (h : Installed s) (p : limit ≡ word max-depth-offset s) (q : n ≡ length (generation-of s .base)) where
   limit-is : limit ≡ store-of s .config .max-depth
   limit-is = p ∙ generation-in s h .store .depth-limit-word
 

@@ -4,6 +4,7 @@ use mathlib.Core.Path.{_≡_}
 use mathlib.Core.List.{List, [], _∷_, _++_}
 use mathlib.Core.Option.{Option, some, none}
 use lib.ListN.{length, replicate}
+use Rattle.layout.specs.Layout.{awaiting-table, depth-offset, ends-limit, ends-offset, record-size, records-offset}
 use Rattle.model.specs.declared.storage_memo.ReadAnchor.{ReadAnchor}
 use Rattle.model.specs.Numbers.{be}
 use Rattle.model.specs.Layers.{Layer}
@@ -36,15 +37,15 @@ pub record Sealed (c : CompactionCounts) (after before : List ℕ) (cfg : Config
   pub bytes-are : after ≡ overlay (begun-on cfg child (seal t (k .base))) before
   pub counts-are : report-of c ≡ k .report
 
--- Words 0 to 855 of a store with a new generation: of its depth, its number of records and its layer ends.
+-- The words before the records of a store with a new generation: of its depth, its number of records and its layer ends.
 unfoldable pub header-words : Config → ReadAnchor → ℕ → ℕ → List ℕ → List ℕ
-header-words cfg a depth count ends = config-words cfg ++ ((1 ∷ a .number ∷ (hash-words (a .hash) ++ (depth ∷ count ∷ replicate 10 0))) ++ (padded 256 ends ++ replicate 576 0))
+header-words cfg a depth count ends = config-words cfg ++ ((1 ∷ a .number ∷ (hash-words (a .hash) ++ (depth ∷ count ∷ replicate 10 0))) ++ (padded ends-limit ends ++ replicate awaiting-table 0))
 
 -- A header with a layer more: its number k in the place of the depth, and n records up to it, as their number and as its end.
 abbrev pub with-layer : ℕ → ℕ → List ℕ → List ℕ
-with-layer k n b = placed (192 + 8 * k) (be 8 n) (placed 96 (bytes-of (k ∷ n ∷ [])) b)
+with-layer k n b = placed (ends-offset + 8 * k) (be 8 n) (placed depth-offset (bytes-of (k ∷ n ∷ [])) b)
 
 -- A store with the records of a top behind the first `left` records, and zeros from there to the capacity.
 abbrev pub topped-up : ℕ → ℕ → Layer → List ℕ → List ℕ
 topped-up left capacity t b =
-    placed (6848 + 104 * (left + length t)) (replicate (104 * (capacity - (left + length t))) 0) (placed (6848 + 104 * left) (bytes-of (all-record-words t)) b)
+    placed (records-offset + record-size * (left + length t)) (replicate (record-size * (capacity - (left + length t))) 0) (placed (records-offset + record-size * left) (bytes-of (all-record-words t)) b)

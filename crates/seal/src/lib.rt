@@ -1,5 +1,5 @@
 // The link of an advance, and the store after its seal, built in the work area.
-use model::read_hub::BalSkip;
+use model::bal_prefetch::BalSkip;
 use model::read_hub::Lineage;
 use model::storage_memo::B256;
 use model::storage_memo::BlockHash;
@@ -11,6 +11,7 @@ ghost use mathlib.Core.List.{_++_, []};
 ghost use Prim.Native.Nat.{_+_, _*_, _≤_, _<_};
 ghost use lib.Dec.{eqb};
 ghost use lib.ListN.{length, drop};
+ghost use Rattle.layout.specs.Layout.{ends-limit, records-offset};
 ghost use Rattle.model.specs.Layers.{record-count};
 ghost use Rattle.model.specs.Advance as advance;
 ghost use Rattle.model.specs.Refusals.{store-size};
@@ -33,10 +34,10 @@ fn classify_hash(s: &[u8], parent_hash: B256) -> Lineage
     requires { ⌜ Installed (now s) ⌝ }
     ensures { λ r. ⌜ r ≡ advance.classify-hash (generation-of (now (s .entry)) .anchor .hash) «parent_hash» ⌝ }
 {
-    if words::read_u64(s, 56) == 0 {
+    if words::read_u64(s, layout::HASH_OFFSET) == 0 {
         return Lineage::ParentHashUnknown;
     }
-    if !known::same_u256(s, 64, parent_hash) {
+    if !header::same_u256(s, layout::HASH_W0_OFFSET, parent_hash) {
         return Lineage::ParentHashMismatch;
     }
     Lineage::Linked
@@ -112,14 +113,14 @@ fn kept_layers(s: &[u8]) -> usize
 
 // Writes the header of a new generation that has no layer yet, with the store's config.
 fn write_header(s: &[u8], work: &mut [u8], child: ReadAnchor)
-    requires { ⌜ IsStore (now s) × (6848 ≤ length (now work)) ⌝ }
-    ensures { λ _. ⌜ now (work .exit) ≡ bytes-of (header-words (store-of (now (s .entry)) .config) child 0 0 []) ++ drop 6848 (now (work .entry)) ⌝ }
+    requires { ⌜ IsStore (now s) × (records-offset ≤ length (now work)) ⌝ }
+    ensures { λ _. ⌜ now (work .exit) ≡ bytes-of (header-words (store-of (now (s .entry)) .config) child 0 0 []) ++ drop records-offset (now (work .entry)) ⌝ }
 {
-    words::clear(work, 0, image::HEADER_BYTES);
-    words::place(work, 0, &s[0..40]);
+    words::clear(work, 0, layout::RECORDS_OFFSET);
+    words::place(work, 0, &s[0..layout::INSTALLED_OFFSET]);
     let hash = child.hash;
     match hash {
-        BlockHash::Unknown => known::write_anchor(
+        BlockHash::Unknown => header::write_anchor(
             work,
             child.number,
             0,
@@ -130,18 +131,18 @@ fn write_header(s: &[u8], work: &mut [u8], child: ReadAnchor)
                 w3: 0,
             },
         ),
-        BlockHash::Known(h) => known::write_anchor(work, child.number, 1, h),
+        BlockHash::Known(h) => header::write_anchor(work, child.number, 1, h),
     }
 }
 
 // Writes that layer k is the highest, and that there are n records up to it.
 fn add_layer(work: &mut [u8], k: usize, n: usize)
-    requires { ⌜ (k < 256) × (6848 ≤ length (now work)) ⌝ }
+    requires { ⌜ (k < ends-limit) × (records-offset ≤ length (now work)) ⌝ }
     ensures { λ _. ⌜ now (work .exit) ≡ with-layer k n (now (work .entry)) ⌝ }
 {
-    words::write_u64(work, 96, k as u64);
-    words::write_u64(work, 104, n as u64);
-    words::write_u64(work, 192 + 8 * k, n as u64);
+    words::write_u64(work, layout::DEPTH_OFFSET, k as u64);
+    words::write_u64(work, layout::RECORDS_COUNT_OFFSET, n as u64);
+    words::write_u64(work, layout::ENDS_OFFSET + 8 * k, n as u64);
 }
 
 // The start of a cold advance: the store in the work area has a generation at the child over a void base.
@@ -149,9 +150,9 @@ pub fn begin_cold(s: &[u8], work: &mut [u8], child: ReadAnchor)
     requires { ⌜ IsStore (now s) × (store-size (store-of (now s) .config .capacity) ≤ length (now work)) ⌝ }
     ensures { λ _. ⌜ now (work .exit) ≡ overlay (begun-on (store-of (now (s .entry)) .config) child advance.void-base) (now (work .entry)) ⌝ }
 {
-    let capacity = words::read_u64(s, 8) as usize;
+    let capacity = words::read_u64(s, layout::CAPACITY_OFFSET) as usize;
     write_header(s, work, child);
-    words::clear(work, image::HEADER_BYTES, image::RECORD_BYTES * capacity);
+    words::clear(work, layout::RECORDS_OFFSET, layout::RECORD_SIZE * capacity);
 }
 
 // The seal without a fold: the layers stay, and the top becomes one.
@@ -159,22 +160,26 @@ fn seal_layers(s: &[u8], work: &mut [u8], child: ReadAnchor)
     requires { ⌜ Installed (now s) × (length (generation-of (now s) .base) ≤ 255) × (store-size (store-of (now s) .config .capacity) ≤ length (now work)) ⌝ }
     ensures { λ _. ⌜ now (work .exit) ≡ overlay (begun-on (store-of (now (s .entry)) .config) child (advance.seal (generation-of (now (s .entry)) .top) (generation-of (now (s .entry)) .base))) (now (work .entry)) ⌝ }
 {
-    let capacity = words::read_u64(s, 8) as usize;
-    let n = words::read_u64(s, 104) as usize;
+    let capacity = words::read_u64(s, layout::CAPACITY_OFFSET) as usize;
+    let n = words::read_u64(s, layout::RECORDS_COUNT_OFFSET) as usize;
     let k = kept_layers(s);
     write_header(s, work, child);
-    words::place(work, 192, &s[192..192 + 8 * k]);
+    words::place(
+        work,
+        layout::ENDS_OFFSET,
+        &s[layout::ENDS_OFFSET..layout::ENDS_OFFSET + 8 * k],
+    );
     add_layer(work, k, n);
     words::place(
         work,
-        image::HEADER_BYTES,
-        &s[image::HEADER_BYTES..image::HEADER_BYTES + image::RECORD_BYTES * capacity],
+        layout::RECORDS_OFFSET,
+        &s[layout::RECORDS_OFFSET..layout::RECORDS_OFFSET + layout::RECORD_SIZE * capacity],
     );
 }
 
 // Writes the ends of a folded layer of `left` records, unless it is empty, and of the sealed top over it.
 fn add_layers(work: &mut [u8], left: usize, total: usize)
-    requires { ⌜ 6848 ≤ length (now work) ⌝ }
+    requires { ⌜ records-offset ≤ length (now work) ⌝ }
     ensures { λ _. ⌜ now (work .exit) ≡ cond (eqb left 0) (with-layer 0 total (now (work .entry))) (with-layer 1 total (with-layer 0 left (now (work .entry)))) ⌝ }
 {
     if left == 0 {
@@ -190,15 +195,15 @@ fn place_top(s: &[u8], work: &mut [u8], left: usize)
     requires { ⌜ Installed (now s) × (left ≤ record-count (generation-of (now s) .base)) × (store-size (store-of (now s) .config .capacity) ≤ length (now work)) ⌝ }
     ensures { λ _. ⌜ now (work .exit) ≡ topped-up left (store-of (now (s .entry)) .config .capacity) (generation-of (now (s .entry)) .top) (now (work .entry)) ⌝ }
 {
-    let capacity = words::read_u64(s, 8) as usize;
-    let start = image::HEADER_BYTES + image::RECORD_BYTES * layers::top_start(s);
+    let capacity = words::read_u64(s, layout::CAPACITY_OFFSET) as usize;
+    let start = layout::RECORDS_OFFSET + layout::RECORD_SIZE * layers::top_start(s);
     let n = layers::top_count(s);
-    let at = image::HEADER_BYTES + image::RECORD_BYTES * left;
-    words::place(work, at, &s[start..start + image::RECORD_BYTES * n]);
+    let at = layout::RECORDS_OFFSET + layout::RECORD_SIZE * left;
+    words::place(work, at, &s[start..start + layout::RECORD_SIZE * n]);
     words::clear(
         work,
-        at + image::RECORD_BYTES * n,
-        image::RECORD_BYTES * (capacity - (left + n)),
+        at + layout::RECORD_SIZE * n,
+        layout::RECORD_SIZE * (capacity - (left + n)),
     );
 }
 
@@ -214,11 +219,11 @@ fn seal_folded(s: &[u8], work: &mut [u8], child: ReadAnchor) -> CompactionCounts
     let number = layers::installed_number(s);
     write_header(s, work, child);
     let folded = fold::fold(
-        &s[image::HEADER_BYTES..],
+        &s[layout::RECORDS_OFFSET..],
         base,
         retention,
         number,
-        &mut work[image::HEADER_BYTES..],
+        &mut work[layout::RECORDS_OFFSET..],
     );
     let left = folded.left;
     let dropped = folded.dropped;
@@ -236,7 +241,7 @@ pub fn begin_carried(s: &[u8], work: &mut [u8], child: ReadAnchor) -> Compaction
     requires { ⌜ Installed (now s) × (store-size (store-of (now s) .config .capacity) ≤ length (now work)) ⌝ }
     ensures { λ r. ⌜ Sealed r (now (work .exit)) (now (work .entry)) (store-of (now (s .entry)) .config) child (generation-of (now (s .entry)) .top) (compacted (store-of (now (s .entry)) .config) (generation-of (now (s .entry)))) ⌝ }
 {
-    let limit = words::read_u64(s, 16) as usize;
+    let limit = words::read_u64(s, layout::MAX_DEPTH_OFFSET) as usize;
     if limit < layers::layers(s) {
         return seal_folded(s, work, child);
     }

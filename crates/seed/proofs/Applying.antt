@@ -26,8 +26,8 @@ use Rattle.image.proofs.ReadBack.{decode-some, length-image, decode-image}
 use Rattle.image.proofs.Lent.{generation-in, store-is, installed, generation-is}
 use Rattle.records.specs.declared.Found.{Found}
 use Rattle.records.specs.Records.{place-in, count-after}
-use Rattle.known.proofs.Changed.{store-split}
-use Rattle.known.proofs.Tops.{count-set}
+use Rattle.header.proofs.Images.{store-split}
+use Rattle.top.proofs.Tops.{count-set}
 use Rattle.seed.specs.declared.WriteKind.{WriteKind as Kind}
 use Rattle.seed.specs.declared.WriteKind.the-variants.{Overwrite, New, Skip}
 use Rattle.seed.specs.declared.Applied.{Applied}

@@ -19,21 +19,23 @@ use Rattle.model.specs.Advance.{WriteKind, overwrite, new, skip, relevant, fina
 use Rattle.model.specs.Entries.{write-of, addresses-of, writes-of}
 use Rattle.model.specs.Store.{Config, Generation, Store, chain, with-top}
 use Rattle.model.specs.Refusals.{store-size}
+use Rattle.model.proofs.EntryLaws.{bytes-drop}
 use Rattle.image.specs.Image.{image}
 use Rattle.image.specs.Lent.{store-of, generation-of, Installed}
 use Rattle.image.proofs.ReadBack.{decode-some, length-image}
+use Rattle.image.proofs.EntriesFit.{u256-at-fits, slot-of-fits}
 use Rattle.image.proofs.Lent.{generation-in}
 use Rattle.records.specs.declared.Found.{Found}
 use Rattle.records.specs.declared.Found.the-variants.{At, Absent}
 use Rattle.records.specs.Records.{place-in, count-after}
 use Rattle.records.proofs.Places.{length-insert}
-use Rattle.known.proofs.Changed.{store-split}
+use Rattle.header.proofs.Images.{store-split}
 use Rattle.seed.specs.declared.WriteKind.{WriteKind as Kind}
 use Rattle.seed.specs.declared.Applied.{Applied}
 use Rattle.seed.specs.declared.Applied.the-variants.{Full, Done}
 use Rattle.seed.specs.declared.WriteCounts.{WriteCounts}
 use Rattle.seed.specs.Writes.{kind-of, has-room-for, kind-in, top-after, Wrote, count-one, seeded-over, seeded-in, SeededTo}
-use Rattle.seed.proofs.Entries.{write-at, writes-end, slot-fits-at, value-fits}
+use Rattle.seed.proofs.Entries.{write-at, writes-end}
 use Rattle.seed.proofs.Applying.{Again, wrote-full, wrote-done, wrote-again}
 
 -- A top grows -----------------------------------------------------------------------------------------
@@ -161,14 +163,14 @@ module _ (b addresses writes s : List ℕ) (c : WriteCounts) (i : ℕ) (along : 
       lt-leb (record-count (total .top ∷ generation-of b .base)) (store-of b .config .capacity) (omega arith)
 
   -- A write applied.
-  module _ (after : List ℕ) (r : Applied) (what : Kind) (known : Bytes writes) (known-after : Bytes after) (h : i < length writes / 84) (fits : i * 84 + 84 ≤ length writes)
+  module _ (after : List ℕ) (r : Applied) (what : Kind) (known : Bytes writes) (known-after : Bytes after) (h : i < length writes / 84)
       (wr : Wrote r after s addresses (write .slot) (write .value)) (e : r ≡ Done what) where
     said : (has-room-for top-then s ≡ true) × (kind-of what ≡ kind-then)
     said = wrote-done r after s addresses (write .slot) (write .value) what wr e
 
     again : Again after s (store-of s .config) (with-top (generation-of s) top-then)
     again =
-        wrote-again r after s addresses (write .slot) (write .value) what (along .installed) (slot-fits-at (i * 84) writes known (omega arith)) (value-fits (i * 84) writes known 52 (omega arith)) wr e
+        wrote-again r after s addresses (write .slot) (write .value) what (along .installed) (slot-of-fits (drop (i * 84) writes) (bytes-drop (i * 84) writes known)) (u256-at-fits 52 (drop (i * 84) writes) (bytes-drop (i * 84) writes known)) wr e
 
     later-is : seeded-in after relevance (drop (i + 1) (writes-of writes)) ≡ later
     later-is =

@@ -13,7 +13,7 @@ use Rattle.model.specs.Advance.{WriteKind, overwrite, new, skip, relevant, fina
 use Rattle.model.specs.Entries.{addresses-of, writes-of}
 use Rattle.image.specs.Image.{overlay}
 use Rattle.image.specs.Lent.{store-of, generation-of, Installed}
-use Rattle.known.specs.Inner.{topped}
+use Rattle.top.specs.Top.{topped}
 use Rattle.model.specs.Store.{Config, Generation, with-top}
 use Rattle.model.specs.declared.storage_memo.Address.{Address}
 use Rattle.seed.specs.declared.WriteKind.{WriteKind as Kind}

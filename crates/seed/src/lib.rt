@@ -4,21 +4,15 @@ use layers::Use;
 use model::delta_snapshot::Slot;
 use model::storage_memo::Address;
 use model::storage_memo::U256;
-use records::Found;
 ghost use mathlib.Core.Path.{_≡_};
 ghost use mathlib.Core.Bool.{true, cond};
 ghost use mathlib.Core.Option.{some, none};
 ghost use Prim.Native.Nat.{_+_, _*_, _/_, _^_, _≤_, _<_};
 ghost use lib.ListN.{length, drop};
-ghost use Rattle.model.specs.Numbers.{num};
-ghost use Rattle.model.specs.Slots.{address-eqb};
 ghost use Rattle.model.specs.Layers.{find, freshest-use, insert, valued};
 ghost use Rattle.model.specs.Advance.{relevant, unserved-kind, write-kind, final-write-kind};
 ghost use Rattle.model.specs.Entries.{u256-at, address-of, slot-of, addresses-of};
-ghost use Rattle.words.specs.Parts.{part};
-ghost use Rattle.image.specs.Image.{overlay};
 ghost use Rattle.image.specs.Lent.{store-of, generation-of, Installed};
-ghost use Rattle.known.specs.Inner.{topped, Placed};
 ghost use Rattle.seed.specs.Rising.{address-ltb, Rise, RiseIf, bucket-of, Noted, Indexed};
 ghost use Rattle.seed.specs.Writes.{kind-of, applied-kind, Settled, Wrote, count-one, SeededAs};
 
@@ -48,72 +42,12 @@ pub enum Seeded {
     Done(WriteCounts),
 }
 
-// The number of the four bytes at `at`, which four more follow.
-fn read_u32(s: &[u8], at: usize) -> u32
-    requires { ⌜ at + 8 ≤ length (now s) ⌝ }
-    ensures { λ r. ⌜ r ≡ num (part at 4 (now (s .entry))) ⌝ }
-{
-    (words::read_u64(s, at) / 0x1_0000_0000) as u32
-}
-
-// The 32-byte number at `at`.
-fn read_u256(s: &[u8], at: usize) -> U256
-    requires { ⌜ at + 32 ≤ length (now s) ⌝ }
-    ensures { λ r. ⌜ r ≡ u256-at at (now (s .entry)) ⌝ }
-{
-    U256 {
-        w0: words::read_u64(s, at),
-        w1: words::read_u64(s, at + 8),
-        w2: words::read_u64(s, at + 16),
-        w3: words::read_u64(s, at + 24),
-    }
-}
-
-// Whether the address at `at` is the given one.
-fn same_address(addresses: &[u8], at: usize, address: Address) -> bool
-    requires { ⌜ at + 20 ≤ length (now addresses) ⌝ }
-    ensures { λ r. ⌜ r ≡ address-eqb (address-of (drop at (now (addresses .entry)))) address ⌝ }
-{
-    if words::read_u64(addresses, at + 12) != address.w2 {
-        return false;
-    }
-    if words::read_u64(addresses, at + 4) != address.w1 {
-        return false;
-    }
-    read_u32(addresses, at) == address.w0
-}
-
-// The address at `at`.
-fn address_at(addresses: &[u8], at: usize) -> Address
-    requires { ⌜ at + 20 ≤ length (now addresses) ⌝ }
-    ensures { λ r. ⌜ r ≡ address-of (drop at (now (addresses .entry))) ⌝ }
-{
-    Address {
-        w0: read_u32(addresses, at),
-        w1: words::read_u64(addresses, at + 4),
-        w2: words::read_u64(addresses, at + 12),
-    }
-}
-
-// Whether two addresses are equal.
-fn equal(a: Address, b: Address) -> bool
-    ensures { λ r. ⌜ r ≡ address-eqb a b ⌝ }
-{
-    if a.w2 != b.w2 {
-        return false;
-    }
-    if a.w1 != b.w1 {
-        return false;
-    }
-    a.w0 == b.w0
-}
-
 // Whether the address at `at` comes before the given one.
 fn address_before(addresses: &[u8], at: usize, address: Address) -> bool
     requires { ⌜ at + 20 ≤ length (now addresses) ⌝ }
     ensures { λ r. ⌜ r ≡ address-ltb (address-of (drop at (now (addresses .entry)))) address ⌝ }
 {
-    let a = read_u32(addresses, at);
+    let a = words::half(addresses, at) as u32;
     if a != address.w0 {
         return a < address.w0;
     }
@@ -131,7 +65,11 @@ fn rises(addresses: &[u8]) -> bool
     let n = addresses.len() / 20;
     let mut i = 0;
     while i + 1 < n {
-        if address_before(addresses, (i + 1) * 20, address_at(addresses, i * 20)) {
+        if address_before(
+            addresses,
+            (i + 1) * 20,
+            entries::read_address(addresses, i * 20),
+        ) {
             return false;
         }
         i += 1;
@@ -158,7 +96,7 @@ fn relevant_rising(addresses: &[u8], address: Address) -> bool
     if lo == n {
         return false;
     }
-    equal(address_at(addresses, lo * 20), address)
+    entries::is_address(addresses, lo * 20, address)
 }
 
 // Whether an address is on the list.
@@ -168,7 +106,7 @@ pub fn relevant(addresses: &[u8], address: Address) -> bool
     let n = addresses.len() / 20;
     let mut i = 0;
     while i < n {
-        if same_address(addresses, i * 20, address) {
+        if entries::is_address(addresses, i * 20, address) {
             return true;
         }
         i += 1;
@@ -181,15 +119,7 @@ pub fn write_slot_of(writes: &[u8], i: usize) -> Slot
     requires { ⌜ (i + 1) * 84 ≤ length (now writes) ⌝ }
     ensures { λ r. ⌜ r ≡ slot-of (drop (i * 84) (now (writes .entry))) ⌝ }
 {
-    let at = i * 84;
-    Slot {
-        address: Address {
-            w0: read_u32(writes, at),
-            w1: words::read_u64(writes, at + 4),
-            w2: words::read_u64(writes, at + 12),
-        },
-        index: read_u256(writes, at + 20),
-    }
+    entries::read_slot(writes, i * 84)
 }
 
 // The value of write i.
@@ -197,7 +127,7 @@ pub fn write_value_of(writes: &[u8], i: usize) -> U256
     requires { ⌜ (i + 1) * 84 ≤ length (now writes) ⌝ }
     ensures { λ r. ⌜ r ≡ u256-at 52 (drop (i * 84) (now (writes .entry))) ⌝ }
 {
-    read_u256(writes, i * 84 + 52)
+    entries::read_u256(writes, i * 84 + 52)
 }
 
 // Whether an address is on the list, whose addresses rise where `rise` says so.
@@ -226,7 +156,7 @@ fn note(addresses: &[u8], table: &mut [u16])
     let n = addresses.len() / 20;
     let mut i = 0;
     while i < n {
-        let b = bucket(address_at(addresses, i * 20));
+        let b = bucket(entries::read_address(addresses, i * 20));
         table[b] = (i % 65535 + 1) as u16;
         i += 1;
     }
@@ -242,7 +172,7 @@ fn relevant_in(addresses: &[u8], table: &[u16], rise: bool, address: Address) ->
         return false;
     }
     if k <= addresses.len() / 20 {
-        if equal(address_at(addresses, (k - 1) * 20), address) {
+        if entries::is_address(addresses, (k - 1) * 20, address) {
             return true;
         }
     }
@@ -288,28 +218,16 @@ fn kind(s: &[u8], addresses: &[u8], table: &[u16], rise: bool, slot: Slot) -> Wr
     }
 }
 
-// Sets a slot's record in the top to a value and a last use.
-pub fn settle_used(s: &mut [u8], place: Found, slot: Slot, value: U256, used: u64)
-    requires { ⌜ Placed place slot (now s) ⌝ }
-    ensures { λ _. ⌜ now (s .exit) ≡ overlay (topped (store-of (now (s .entry)) .config) (generation-of (now (s .entry))) (insert slot (valued used value) (generation-of (now (s .entry)) .top))) (now (s .entry)) ⌝ }
-{
-    let n = layers::top_count(s);
-    let start = layers::top_start(s);
-    let at = 6848 + 104 * start;
-    let total = records::settle(&mut s[at..], n, place, slot, value, used);
-    words::write_u64(s, 104, (start + total) as u64);
-}
-
 // Sets a slot's record in the top to a value and a last use if there is room for it; whether there is.
 fn settle_if_room(s: &mut [u8], slot: Slot, value: U256, used: u64) -> bool
     requires { ⌜ Installed (now s) ⌝ }
     ensures { λ r. ⌜ Settled r (now (s .exit)) (insert slot (valued used value) (generation-of (now (s .entry)) .top)) (now (s .entry)) ⌝ }
 {
-    let place = known::top_place(s, slot);
-    if !known::has_room(s, place) {
+    let place = top::top_place(s, slot);
+    if !top::has_room(s, place) {
         return false;
     }
-    settle_used(s, place, slot, value, used);
+    top::settle_used(s, place, slot, value, used);
     true
 }
 

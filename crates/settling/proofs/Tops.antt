@@ -26,16 +26,16 @@ use Rattle.image.specs.Lent.{store-of, generation-of, Installed}
 use Rattle.image.proofs.ReadBack.{decode-some, decode-image, length-image}
 use Rattle.image.proofs.Lent.{store-is, decoded, installed, generation-is}
 use Rattle.image.proofs.Closure.{closure}
-use Rattle.known.specs.Answers.{alone}
-use Rattle.known.specs.Inner.{topped}
-use Rattle.known.proofs.Changed.{store-split}
-use Rattle.known.proofs.Turned.{plain-put, memory-of, this-there, put-accepted, over-by}
+use Rattle.unchecked_calls.specs.Answers.{alone}
+use Rattle.top.specs.Top.{topped}
+use Rattle.header.proofs.Images.{store-split}
+use Rattle.unchecked_calls.proofs.Turned.{plain-put, memory-of, this-there, put-accepted, over-by}
 use Rattle.model.specs.Reads.{settle-outcome, settle-members}
 use Rattle.model.specs.Entries.{slot-of, members-of}
 use Rattle.records.specs.declared.Found.{Found}
 use Rattle.records.specs.Records.{place-in, count-after}
-use Rattle.known.specs.Inner.{Placed}
-use Rattle.known.proofs.Tops.{count-set}
+use Rattle.top.specs.Top.{Placed}
+use Rattle.top.proofs.Tops.{count-set}
 use Rattle.settling.specs.Settling.{outcome-at, Settled}
 use Rattle.settling.proofs.Additions.{grows}
 use Rattle.settling.proofs.Members.{settle-first, settle-end}

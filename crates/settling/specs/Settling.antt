@@ -14,7 +14,7 @@ use Rattle.model.specs.Entries.{slot-of, u256-at}
 use Rattle.model.specs.Store.{with-top}
 use Rattle.image.specs.Image.{overlay}
 use Rattle.image.specs.Lent.{store-of, generation-of, Installed as HasGeneration}
-use Rattle.known.specs.Inner.{topped}
+use Rattle.top.specs.Top.{topped}
 
 -- 1 where a slot has no record in a layer, else 0.
 abbrev pub missing : Slot → Layer → ℕ

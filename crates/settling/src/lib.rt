@@ -1,6 +1,5 @@
 // The values of an answer's members put to the top of a store.
 use model::delta_snapshot::Slot;
-use model::storage_memo::U256;
 use records::Found;
 ghost use mathlib.Core.Path.{_≡_};
 ghost use Prim.Native.Nat.{_+_, _≤_};
@@ -10,7 +9,7 @@ ghost use mathlib.Core.Bool.{cond};
 ghost use lib.ListN.{length, drop, getD};
 ghost use Rattle.model.specs.Layers.{record-count};
 ghost use Rattle.model.specs.Reads as reads;
-ghost use Rattle.model.specs.Entries.{slot-of, u256-at, members-of};
+ghost use Rattle.model.specs.Entries.{slot-of, members-of};
 ghost use Rattle.image.specs.Lent.{store-of, generation-of, Installed as HasGeneration};
 ghost use Rattle.settling.specs.Settling.{missing, added as added-by, outcome-at, Settled};
 
@@ -22,7 +21,7 @@ fn added_at(s: &[u8], list: &[u8], at: usize) -> usize
     if list[at + 52] == 0 {
         return 0;
     }
-    match known::top_place(s, awaiting::slot_in(list, at)) {
+    match top::top_place(s, entries::read_slot(list, at)) {
         Found::At(_) => 0,
         Found::Absent(_) => 1,
     }
@@ -42,19 +41,6 @@ pub fn added(s: &[u8], list: &[u8]) -> usize
     k
 }
 
-// The 32-byte number at `at`.
-fn value_in(list: &[u8], at: usize) -> U256
-    requires { ⌜ at + 32 ≤ length (now list) ⌝ }
-    ensures { λ r. ⌜ r ≡ u256-at at (now (list .entry)) ⌝ }
-{
-    U256 {
-        w0: words::read_u64(list, at),
-        w1: words::read_u64(list, at + 8),
-        w2: words::read_u64(list, at + 16),
-        w3: words::read_u64(list, at + 24),
-    }
-}
-
 // Puts the value of the member at `at`, if it has one.
 fn settle_at(s: &mut [u8], members: &[u8], at: usize)
     requires { ⌜ HasGeneration (now s) × (at + 85 ≤ length (now members)) × (record-count (reads.settle-outcome (generation-of (now s) .anchor .number) (slot-of (drop at (now members))) (outcome-at at (now members)) (generation-of (now s) .top) ∷ generation-of (now s) .base) ≤ store-of (now s) .config .capacity) ⌝ }
@@ -63,10 +49,10 @@ fn settle_at(s: &mut [u8], members: &[u8], at: usize)
     if members[at + 52] == 0 {
         return;
     }
-    let slot = awaiting::slot_in(members, at);
-    let value = value_in(members, at + 53);
-    let place = known::top_place(s, slot);
-    known::settle_top(s, place, slot, value);
+    let slot = entries::read_slot(members, at);
+    let value = entries::read_u256(members, at + 53);
+    let place = top::top_place(s, slot);
+    top::settle_top(s, place, slot, value);
 }
 
 // Puts the values of the members of a lent answer.

@@ -6,6 +6,7 @@ use mathlib.Core.Option.{some}
 use native.Mathlib.Omega.{arith}
 use lib.ListN.{length, drop}
 use lib.Seq.{drop-at}
+use Rattle.layout.specs.Layout.{magic, totals-index, totals-offset}
 use Rattle.model.specs.declared.storage_memo.BlockHash.{BlockHash}
 use Rattle.model.specs.declared.delta_snapshot.Retention.{Retention}
 use Rattle.model.specs.declared.storage_memo.BlockHash.the-variants.{Unknown, Known}
@@ -14,21 +15,21 @@ use Rattle.model.specs.declared.read_hub.ReadTotals.{ReadTotals}
 use Rattle.model.specs.Layers.{record-count}
 use Rattle.model.specs.Store.{Config, Generation, Store, chain}
 use Rattle.model.specs.Refusals.{store-words}
-use Rattle.image.specs.Image.{bytes-of, magic, retention-words, hash-words, totals-words, layer-ends, flat-records, all-pending-words, all-record-words, table-words, read-totals, image-words, image}
+use Rattle.image.specs.Image.{bytes-of, retention-words, hash-words, totals-words, layer-ends, flat-records, all-pending-words, all-record-words, table-words, read-totals, image-words, image}
 use Rattle.image.proofs.Words.{length-bytes-of}
 use Rattle.image.proofs.ReadBack.{Begins}
 use Rattle.totals.specs.Totals.{totals-of, with-totals}
 use Rattle.totals.proofs.Places.{totals-of-words, placed-over, bytes-of-append}
 
--- The 15 words before the totals, and those after them.
+-- The words before the totals, and those after them.
 abbrev before : ℕ → ℕ → Retention → ℕ → BlockHash → ℕ → ℕ → ℕ → List ℕ
 before c d R n k x y z = (magic ∷ c ∷ d ∷ retention-words R) ++ (1 ∷ n ∷ (hash-words k ++ (x ∷ y ∷ z ∷ [])))
 
-fifteen : (c d : ℕ) (R : Retention) (n : ℕ) (k : BlockHash) (x y z : ℕ) → length (before c d R n k x y z) ≡ 15
-fifteen c d Unbounded n Unknown x y z = refl
-fifteen c d Unbounded n (Known h) x y z = refl
-fifteen c d (IdleBlocks i) n Unknown x y z = refl
-fifteen c d (IdleBlocks i) n (Known h) x y z = refl
+length-words-before : (c d : ℕ) (R : Retention) (n : ℕ) (k : BlockHash) (x y z : ℕ) → length (before c d R n k x y z) ≡ totals-index
+length-words-before c d Unbounded n Unknown x y z = refl
+length-words-before c d Unbounded n (Known h) x y z = refl
+length-words-before c d (IdleBlocks i) n Unknown x y z = refl
+length-words-before c d (IdleBlocks i) n (Known h) x y z = refl
 
 apart : (c d : ℕ) (R : Retention) (n : ℕ) (k : BlockHash) (x y z : ℕ) (ts rest : List ℕ)
     → (magic ∷ c ∷ d ∷ retention-words R) ++ ((1 ∷ n ∷ (hash-words k ++ (x ∷ y ∷ z ∷ ts))) ++ rest) ≡ before c d R n k x y z ++ (ts ++ rest)
@@ -48,8 +49,8 @@ module _ (cfg : Config) (g : Generation) where
   abbrev tail : List ℕ
   tail = table-words (cfg .capacity) (layer-ends (g .base)) (all-pending-words (g .pending)) (all-record-words (flat-records (chain g)))
 
-  head-length : length head ≡ 15
-  head-length = fifteen (cfg .capacity) (cfg .max-depth) (cfg .retention) (g .anchor .number) (g .anchor .hash) (pred (length (g .base))) (record-count (chain g)) (length (g .pending))
+  head-length : length head ≡ totals-index
+  head-length = length-words-before (cfg .capacity) (cfg .max-depth) (cfg .retention) (g .anchor .number) (g .anchor .hash) (pred (length (g .base))) (record-count (chain g)) (length (g .pending))
 
   words-apart : (t : ReadTotals) → image-words (store-with cfg g t) ≡ head ++ (totals-words t ++ tail)
   unfolding image-words
@@ -67,14 +68,14 @@ module _ (cfg : Config) (g : Generation) where
   totals-of-store t b k =
       let n : ℕ = store-words (cfg .capacity) in
       sym (totals-of-words n b (omega arith))
-      ∙ ap (λ (l : List ℕ). read-totals (drop 15 l)) (k .words ∙ words-apart t)
-      ∙ ap read-totals (drop-at head (totals-words t ++ tail) 15 head-length)
+      ∙ ap (λ (l : List ℕ). read-totals (drop totals-index l)) (k .words ∙ words-apart t)
+      ∙ ap read-totals (drop-at head (totals-words t ++ tail) totals-index head-length)
 
   -- Other totals put into a store's image make the image of the store with those totals.
   pub store-with-totals : (t t′ : ReadTotals) (rest : List ℕ) → with-totals t′ (image (store-with cfg g t) ++ rest) ≡ image (store-with cfg g t′) ++ rest
   store-with-totals t t′ rest =
       let p : List ℕ = bytes-of head in
       let z : List ℕ = bytes-of tail ++ rest in
-      let e : length p ≡ 120 = length-bytes-of head ∙ ap (λ (n : ℕ). 8 * n) head-length in
+      let e : length p ≡ totals-offset = length-bytes-of head ∙ ap (λ (n : ℕ). 8 * n) head-length in
       let f : length (bytes-of (totals-words t)) ≡ length (bytes-of (totals-words t′)) = length-bytes-of (totals-words t) ∙ sym (length-bytes-of (totals-words t′)) in
-      ap (with-totals t′) (image-apart t rest) ∙ placed-over 120 p (bytes-of (totals-words t)) z (bytes-of (totals-words t′)) e f ∙ sym (image-apart t′ rest)
+      ap (with-totals t′) (image-apart t rest) ∙ placed-over totals-offset p (bytes-of (totals-words t)) z (bytes-of (totals-words t′)) e f ∙ sym (image-apart t′ rest)

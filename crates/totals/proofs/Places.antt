@@ -6,6 +6,7 @@ use native.Mathlib.Omega.{arith}
 use lib.ListN.{length, take, drop, getD, length-append, take-append-drop}
 use lib.Dec.{lit<, lit≤}
 use lib.Seq.{drop-drop, drop-at, take-at, getD-drop, length-take-le}
+use Rattle.layout.specs.Layout.{accepted-offset, coalesced-offset, ends-offset, errors-offset, header-width, members-offset, refused-offset, rounds-offset, served-offset, totals-index, totals-offset, totals-width, valued-offset, waiting-offset}
 use Rattle.model.specs.Numbers.{be, num}
 use Rattle.model.specs.declared.read_hub.ReadTotals.{ReadTotals}
 use Rattle.model.proofs.NumberLaws.{length-be}
@@ -23,27 +24,27 @@ word-at (suc n) (suc i) s h =
     let e : 8 + 8 * i ≡ 8 * suc i = omega arith in
     word-at n i (drop 8 s) (omega arith) ∙ ap (λ (l : List ℕ). num (take 8 l)) (drop-drop (8 * i) 8 s ∙ ap (λ (m : ℕ). drop m s) e)
 
--- The totals among at least 24 words of a store, word by word.
-total-at : (n i : ℕ) (s : List ℕ) → 24 ≤ n → i < 9 → getD (drop 15 (words-of n s)) i 0 ≡ num (part (120 + 8 * i) 8 s)
+-- The totals among at least the header's words of a store, word by word.
+total-at : (n i : ℕ) (s : List ℕ) → header-width ≤ n → i < totals-width → getD (drop totals-index (words-of n s)) i 0 ≡ num (part (totals-offset + 8 * i) 8 s)
 total-at n i s h k =
-    let e : 8 * (15 + i) ≡ 120 + 8 * i = omega arith in
-    getD-drop 15 (words-of n s) i 0 ∙ word-at n (15 + i) s (omega arith) ∙ ap (λ (m : ℕ). num (part m 8 s)) e
+    let e : 8 * (totals-index + i) ≡ totals-offset + 8 * i = omega arith in
+    getD-drop totals-index (words-of n s) i 0 ∙ word-at n (totals-index + i) s (omega arith) ∙ ap (λ (m : ℕ). num (part m 8 s)) e
 
 abbrev by-words : List ℕ → ReadTotals
 by-words s =
     record {
-      accepted = num (part 120 8 s);
-      served = num (part 128 8 s);
-      waiting = num (part 136 8 s);
-      valued = num (part 144 8 s);
-      refused = num (part 152 8 s);
-      rounds = num (part 160 8 s);
-      members = num (part 168 8 s);
-      errors = num (part 176 8 s);
-      coalesced = num (part 184 8 s);
+      accepted = num (part accepted-offset 8 s);
+      served = num (part served-offset 8 s);
+      waiting = num (part waiting-offset 8 s);
+      valued = num (part valued-offset 8 s);
+      refused = num (part refused-offset 8 s);
+      rounds = num (part rounds-offset 8 s);
+      members = num (part members-offset 8 s);
+      errors = num (part errors-offset 8 s);
+      coalesced = num (part coalesced-offset 8 s);
     }
 
-words-give : (n : ℕ) (s : List ℕ) → 24 ≤ n → read-totals (drop 15 (words-of n s)) ≡ by-words s
+words-give : (n : ℕ) (s : List ℕ) → header-width ≤ n → read-totals (drop totals-index (words-of n s)) ≡ by-words s
 words-give n s h i =
     record {
       accepted = total-at n 0 s h (lit< tt) i;
@@ -59,10 +60,10 @@ words-give n s h i =
 
 totals-by-words : (s : List ℕ) → totals-of s ≡ by-words s
 unfolding totals-of
-totals-by-words s = words-give 24 s (lit≤ tt)
+totals-by-words s = words-give header-width s (lit≤ tt)
 
 -- The totals from the nine words, each read by itself.
-pub words-read : (s : List ℕ) {x1 x2 x3 x4 x5 x6 x7 x8 x9 : ℕ} → x1 ≡ num (part 120 8 s) → x2 ≡ num (part 128 8 s) → x3 ≡ num (part 136 8 s) → x4 ≡ num (part 144 8 s) → x5 ≡ num (part 152 8 s) → x6 ≡ num (part 160 8 s) → x7 ≡ num (part 168 8 s) → x8 ≡ num (part 176 8 s) → x9 ≡ num (part 184 8 s)
+pub words-read : (s : List ℕ) {x1 x2 x3 x4 x5 x6 x7 x8 x9 : ℕ} → x1 ≡ num (part accepted-offset 8 s) → x2 ≡ num (part served-offset 8 s) → x3 ≡ num (part waiting-offset 8 s) → x4 ≡ num (part valued-offset 8 s) → x5 ≡ num (part refused-offset 8 s) → x6 ≡ num (part rounds-offset 8 s) → x7 ≡ num (part members-offset 8 s) → x8 ≡ num (part errors-offset 8 s) → x9 ≡ num (part coalesced-offset 8 s)
     → _≡_ {A = ReadTotals} (record { accepted = x1; served = x2; waiting = x3; valued = x4; refused = x5; rounds = x6; members = x7; errors = x8; coalesced = x9 }) (totals-of s)
 words-read s {x1} {x2} {x3} {x4} {x5} {x6} {x7} {x8} {x9} p1 p2 p3 p4 p5 p6 p7 p8 p9 =
     let e : _≡_ {A = ReadTotals} (record { accepted = x1; served = x2; waiting = x3; valued = x4; refused = x5; rounds = x6; members = x7; errors = x8; coalesced = x9 }) (by-words s) =
@@ -70,7 +71,7 @@ words-read s {x1} {x2} {x3} {x4} {x5} {x6} {x7} {x8} {x9} p1 p2 p3 p4 p5 p6 p7 p
     e ∙ sym (totals-by-words s)
 
 -- What a store's generation reads as its totals, from any number of words.
-pub totals-of-words : (n : ℕ) (s : List ℕ) → 24 ≤ n → read-totals (drop 15 (words-of n s)) ≡ totals-of s
+pub totals-of-words : (n : ℕ) (s : List ℕ) → header-width ≤ n → read-totals (drop totals-index (words-of n s)) ≡ totals-of s
 totals-of-words n s h = words-give n s h ∙ sym (totals-by-words s)
 
 -- A part placed after another is both placed.
@@ -115,17 +116,17 @@ word-placed ws at x s a b h p q =
     q ∙ ap (placed to (be 8 x)) p ∙ placed-next at to (bytes-of ws) (be 8 x) s e (omega (arith, length-be 8 x)) ∙ ap (λ (l : List ℕ). placed at l s) (sym (bytes-of-snoc ws x))
 
 -- The nine words of the totals, written one after the other.
-pub words-placed : (t : ReadTotals) (s s1 s2 s3 s4 s5 s6 s7 s8 s9 : List ℕ) → 192 ≤ length s
-    → s1 ≡ placed 120 (be 8 (t .accepted)) s → s2 ≡ placed 128 (be 8 (t .served)) s1 → s3 ≡ placed 136 (be 8 (t .waiting)) s2 → s4 ≡ placed 144 (be 8 (t .valued)) s3 → s5 ≡ placed 152 (be 8 (t .refused)) s4 → s6 ≡ placed 160 (be 8 (t .rounds)) s5 → s7 ≡ placed 168 (be 8 (t .members)) s6 → s8 ≡ placed 176 (be 8 (t .errors)) s7 → s9 ≡ placed 184 (be 8 (t .coalesced)) s8
+pub words-placed : (t : ReadTotals) (s s1 s2 s3 s4 s5 s6 s7 s8 s9 : List ℕ) → ends-offset ≤ length s
+    → s1 ≡ placed accepted-offset (be 8 (t .accepted)) s → s2 ≡ placed served-offset (be 8 (t .served)) s1 → s3 ≡ placed waiting-offset (be 8 (t .waiting)) s2 → s4 ≡ placed valued-offset (be 8 (t .valued)) s3 → s5 ≡ placed refused-offset (be 8 (t .refused)) s4 → s6 ≡ placed rounds-offset (be 8 (t .rounds)) s5 → s7 ≡ placed members-offset (be 8 (t .members)) s6 → s8 ≡ placed errors-offset (be 8 (t .errors)) s7 → s9 ≡ placed coalesced-offset (be 8 (t .coalesced)) s8
     → s9 ≡ with-totals t s
 words-placed t s s1 s2 s3 s4 s5 s6 s7 s8 s9 h p1 p2 p3 p4 p5 p6 p7 p8 p9 =
     let ws : List ℕ = totals-words t in
-    let e1 : s1 ≡ placed 120 (bytes-of (take 1 ws)) s = word-placed (take 0 ws) 120 (t .accepted) s s s1 (omega arith) (placed-none 120 s) p1 in
-    let e2 : s2 ≡ placed 120 (bytes-of (take 2 ws)) s = word-placed (take 1 ws) 120 (t .served) s s1 s2 (omega arith) e1 p2 in
-    let e3 : s3 ≡ placed 120 (bytes-of (take 3 ws)) s = word-placed (take 2 ws) 120 (t .waiting) s s2 s3 (omega arith) e2 p3 in
-    let e4 : s4 ≡ placed 120 (bytes-of (take 4 ws)) s = word-placed (take 3 ws) 120 (t .valued) s s3 s4 (omega arith) e3 p4 in
-    let e5 : s5 ≡ placed 120 (bytes-of (take 5 ws)) s = word-placed (take 4 ws) 120 (t .refused) s s4 s5 (omega arith) e4 p5 in
-    let e6 : s6 ≡ placed 120 (bytes-of (take 6 ws)) s = word-placed (take 5 ws) 120 (t .rounds) s s5 s6 (omega arith) e5 p6 in
-    let e7 : s7 ≡ placed 120 (bytes-of (take 7 ws)) s = word-placed (take 6 ws) 120 (t .members) s s6 s7 (omega arith) e6 p7 in
-    let e8 : s8 ≡ placed 120 (bytes-of (take 8 ws)) s = word-placed (take 7 ws) 120 (t .errors) s s7 s8 (omega arith) e7 p8 in
-    word-placed (take 8 ws) 120 (t .coalesced) s s8 s9 (omega arith) e8 p9
+    let e1 : s1 ≡ placed totals-offset (bytes-of (take 1 ws)) s = word-placed (take 0 ws) totals-offset (t .accepted) s s s1 (omega arith) (placed-none totals-offset s) p1 in
+    let e2 : s2 ≡ placed totals-offset (bytes-of (take 2 ws)) s = word-placed (take 1 ws) totals-offset (t .served) s s1 s2 (omega arith) e1 p2 in
+    let e3 : s3 ≡ placed totals-offset (bytes-of (take 3 ws)) s = word-placed (take 2 ws) totals-offset (t .waiting) s s2 s3 (omega arith) e2 p3 in
+    let e4 : s4 ≡ placed totals-offset (bytes-of (take 4 ws)) s = word-placed (take 3 ws) totals-offset (t .valued) s s3 s4 (omega arith) e3 p4 in
+    let e5 : s5 ≡ placed totals-offset (bytes-of (take 5 ws)) s = word-placed (take 4 ws) totals-offset (t .refused) s s4 s5 (omega arith) e4 p5 in
+    let e6 : s6 ≡ placed totals-offset (bytes-of (take 6 ws)) s = word-placed (take 5 ws) totals-offset (t .rounds) s s5 s6 (omega arith) e5 p6 in
+    let e7 : s7 ≡ placed totals-offset (bytes-of (take 7 ws)) s = word-placed (take 6 ws) totals-offset (t .members) s s6 s7 (omega arith) e6 p7 in
+    let e8 : s8 ≡ placed totals-offset (bytes-of (take 8 ws)) s = word-placed (take 7 ws) totals-offset (t .errors) s s7 s8 (omega arith) e7 p8 in
+    word-placed (take 8 ws) totals-offset (t .coalesced) s s8 s9 (omega arith) e8 p9

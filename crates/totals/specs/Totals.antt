@@ -3,6 +3,7 @@ use Prim.Native.Nat.{ℕ, _+_, _≤_}
 use mathlib.Core.Bool.{Bool, cond}
 use mathlib.Core.List.{List}
 use lib.ListN.{drop}
+use Rattle.layout.specs.Layout.{header-width, totals-index, totals-offset}
 use Rattle.model.specs.declared.read_hub.ReadTotals.{ReadTotals}
 use Rattle.model.specs.Reads.{count-served, count-waiting}
 use Rattle.image.specs.Image.{words-of, bytes-of, totals-words, read-totals}
@@ -31,10 +32,10 @@ pub record Answerable (members errors valued refused : ℕ) (t : ReadTotals) : T
 abbrev pub count-read : Bool → Bool → ReadTotals → ReadTotals
 count-read served joined t = cond served (count-served t) (count-waiting joined t)
 
--- The totals that a store's bytes give: words 15 to 23.
+-- The totals that a store's bytes give.
 unfoldable pub totals-of : List ℕ → ReadTotals
-totals-of s = read-totals (drop 15 (words-of 24 s))
+totals-of s = read-totals (drop totals-index (words-of header-width s))
 
 -- A store's bytes with other totals.
 abbrev pub with-totals : ReadTotals → List ℕ → List ℕ
-with-totals t s = placed 120 (bytes-of (totals-words t)) s
+with-totals t s = placed totals-offset (bytes-of (totals-words t)) s

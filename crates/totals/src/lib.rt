@@ -2,6 +2,7 @@
 ghost use mathlib.Core.Path.{_≡_};
 ghost use Prim.Native.Nat.{_≤_};
 ghost use lib.ListN.{length};
+ghost use Rattle.layout.specs.Layout.{ends-offset};
 ghost use Rattle.model.specs.Reads.{count-served, count-waiting, count-answer};
 ghost use Rattle.totals.specs.Totals.{Small, Answerable, count-read, totals-of, with-totals};
 use model::read_hub::ReadTotals;
@@ -65,36 +66,36 @@ pub fn answered(
 
 // The totals of a store.
 pub fn read_totals(s: &[u8]) -> ReadTotals
-    requires { ⌜ 192 ≤ length (now s) ⌝ }
+    requires { ⌜ ends-offset ≤ length (now s) ⌝ }
     ensures { λ r. ⌜ r ≡ totals-of (now (s .entry)) ⌝ }
 {
     ReadTotals {
-        accepted: words::read_u64(s, 120),
-        served: words::read_u64(s, 128),
-        waiting: words::read_u64(s, 136),
-        valued: words::read_u64(s, 144),
-        refused: words::read_u64(s, 152),
-        rounds: words::read_u64(s, 160),
-        members: words::read_u64(s, 168),
-        errors: words::read_u64(s, 176),
-        coalesced: words::read_u64(s, 184),
+        accepted: words::read_u64(s, layout::ACCEPTED_OFFSET),
+        served: words::read_u64(s, layout::SERVED_OFFSET),
+        waiting: words::read_u64(s, layout::WAITING_OFFSET),
+        valued: words::read_u64(s, layout::VALUED_OFFSET),
+        refused: words::read_u64(s, layout::REFUSED_OFFSET),
+        rounds: words::read_u64(s, layout::ROUNDS_OFFSET),
+        members: words::read_u64(s, layout::MEMBERS_OFFSET),
+        errors: words::read_u64(s, layout::ERRORS_OFFSET),
+        coalesced: words::read_u64(s, layout::COALESCED_OFFSET),
     }
 }
 
 // Puts totals into a store.
 pub fn write_totals(s: &mut [u8], t: ReadTotals)
-    requires { ⌜ 192 ≤ length (now s) ⌝ }
+    requires { ⌜ ends-offset ≤ length (now s) ⌝ }
     ensures { λ _. ⌜ now (s .exit) ≡ with-totals t (now (s .entry)) ⌝ }
 {
-    words::write_u64(s, 120, t.accepted);
-    words::write_u64(s, 128, t.served);
-    words::write_u64(s, 136, t.waiting);
-    words::write_u64(s, 144, t.valued);
-    words::write_u64(s, 152, t.refused);
-    words::write_u64(s, 160, t.rounds);
-    words::write_u64(s, 168, t.members);
-    words::write_u64(s, 176, t.errors);
-    words::write_u64(s, 184, t.coalesced);
+    words::write_u64(s, layout::ACCEPTED_OFFSET, t.accepted);
+    words::write_u64(s, layout::SERVED_OFFSET, t.served);
+    words::write_u64(s, layout::WAITING_OFFSET, t.waiting);
+    words::write_u64(s, layout::VALUED_OFFSET, t.valued);
+    words::write_u64(s, layout::REFUSED_OFFSET, t.refused);
+    words::write_u64(s, layout::ROUNDS_OFFSET, t.rounds);
+    words::write_u64(s, layout::MEMBERS_OFFSET, t.members);
+    words::write_u64(s, layout::ERRORS_OFFSET, t.errors);
+    words::write_u64(s, layout::COALESCED_OFFSET, t.coalesced);
 }
 
 // A read counts itself in the totals that it is lent.
@@ -115,7 +116,7 @@ pub fn count_answer(t: &mut ReadTotals, members: u64, errors: u64, valued: u64, 
 
 // A read counts itself in a store.
 pub fn record_read(s: &mut [u8], is_served: bool, joined: bool)
-    requires { ⌜ (192 ≤ length (now s)) × Small (totals-of (now s)) ⌝ }
+    requires { ⌜ (ends-offset ≤ length (now s)) × Small (totals-of (now s)) ⌝ }
     ensures { λ _. ⌜ now (s .exit) ≡ with-totals (count-read «is_served» joined (totals-of (now (s .entry)))) (now (s .entry)) ⌝ }
 {
     let mut t = read_totals(s);
@@ -125,7 +126,7 @@ pub fn record_read(s: &mut [u8], is_served: bool, joined: bool)
 
 // An answer counts itself in a store.
 pub fn record_answer(s: &mut [u8], members: u64, errors: u64, valued: u64, refused: u64)
-    requires { ⌜ (192 ≤ length (now s)) × Answerable members errors valued refused (totals-of (now s)) ⌝ }
+    requires { ⌜ (ends-offset ≤ length (now s)) × Answerable members errors valued refused (totals-of (now s)) ⌝ }
     ensures { λ _. ⌜ now (s .exit) ≡ with-totals (count-answer members errors valued refused (totals-of (now (s .entry)))) (now (s .entry)) ⌝ }
 {
     let mut t = read_totals(s);

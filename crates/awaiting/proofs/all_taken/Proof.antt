@@ -30,7 +30,7 @@ said : (c : tie.After-is-taken Inv-loop μ-loop) → let l = c .before .before .
 said c =
     let l = c .before .before .before in
     let a = l .before .before .before .args in
-    ap (λ (x : Slot). is-taken x (pending-of (a .n) (now (a .s)))) (sym (c .before .slot-in .ensures)) ∙ sym (c .is-taken .ensures)
+    ap (λ (x : Slot). is-taken x (pending-of (a .n) (now (a .s)))) (sym (c .before .read-slot .ensures)) ∙ sym (c .is-taken .ensures)
 
 loop-holds : tie.Need-loop-holds Inv-loop μ-loop
 loop-holds c = (search needs, refl)
@@ -38,8 +38,8 @@ loop-holds c = (search needs, refl)
 sub-loop : tie.Need-sub-loop Inv-loop μ-loop
 sub-loop c = search needs
 
-slot-in-requires : tie.Need-slot-in-requires Inv-loop μ-loop
-slot-in-requires c κs = search needs
+read-slot-requires : tie.Need-read-slot-requires Inv-loop μ-loop
+read-slot-requires c κs = search needs
 
 is-taken-requires : tie.Need-is-taken-requires Inv-loop μ-loop
 is-taken-requires c κs = search needs
@@ -83,7 +83,7 @@ all-taken-spec =
     μ-loop
     loop-holds
     sub-loop
-    slot-in-requires
+    read-slot-requires
     is-taken-requires
     returns
     add-at

@@ -29,7 +29,7 @@ said : (c : tie.After-names Inv-loop μ-loop) → let l = c .before .before .bef
 said c =
     let l = c .before .before .before in
     let a = l .before .before .args in
-    ap (λ (x : Slot). mem x (entry-slots (a .stride) (drop (l .loop .at + a .stride) (now (a .list))))) (sym (c .before .slot-in .ensures)) ∙ sym (c .names .ensures)
+    ap (λ (x : Slot). mem x (entry-slots (a .stride) (drop (l .loop .at + a .stride) (now (a .list))))) (sym (c .before .read-slot .ensures)) ∙ sym (c .names .ensures)
 
 loop-holds : tie.Need-loop-holds Inv-loop μ-loop
 loop-holds c = (search needs, refl)
@@ -37,8 +37,8 @@ loop-holds c = (search needs, refl)
 sub-loop : tie.Need-sub-loop Inv-loop μ-loop
 sub-loop c = search needs
 
-slot-in-requires : tie.Need-slot-in-requires Inv-loop μ-loop
-slot-in-requires c κs = search needs
+read-slot-requires : tie.Need-read-slot-requires Inv-loop μ-loop
+read-slot-requires c κs = search needs
 
 add-at : tie.Need-add-at Inv-loop μ-loop
 add-at c = search needs
@@ -78,7 +78,7 @@ has-duplicate-spec =
     μ-loop
     loop-holds
     sub-loop
-    slot-in-requires
+    read-slot-requires
     add-at
     names-requires
     returns

@@ -6,6 +6,7 @@ use native.Mathlib.Omega.{arith}
 use denote.Ref.{now}
 use mathlib.Core.Path.{_≡_, sym, ap, _∙_}
 use Prim.Native.Nat.{ℕ, _+_, _*_, _≤_, _-_}
+use Rattle.layout.specs.Layout.{awaiting-size, waiters-offset}
 use Rattle.awaiting.specs.Awaiting.{entry-at}
 use mathlib.Core.Bool.{true, false}
 use Rattle.words.specs.Parts.{part, placed}
@@ -57,8 +58,8 @@ place-requires : tie.Need-place-requires
 place-requires c κs =
     let st = c .before .before .before .before .before .before in
     let i = st .args .i in
-    let d : length (drop (i * 72 + 4) (now (st .args .s))) ≡ length (now (st .args .s)) - (i * 72 + 4) = length-drop (i * 72 + 4) (now (st .args .s)) in
-    let e : length (take (i * 72 + 56 - (i * 72 + 4)) (drop (i * 72 + 4) (now (st .args .s)))) ≡ i * 72 + 56 - (i * 72 + 4) = length-take-le (i * 72 + 56 - (i * 72 + 4)) (drop (i * 72 + 4) (now (st .args .s))) (omega arith) in
+    let d : length (drop (i * awaiting-size + 4) (now (st .args .s))) ≡ length (now (st .args .s)) - (i * awaiting-size + 4) = length-drop (i * awaiting-size + 4) (now (st .args .s)) in
+    let e : length (take (i * awaiting-size + waiters-offset - (i * awaiting-size + 4)) (drop (i * awaiting-size + 4) (now (st .args .s)))) ≡ i * awaiting-size + 56 - (i * awaiting-size + 4) = length-take-le (i * awaiting-size + 56 - (i * awaiting-size + 4)) (drop (i * awaiting-size + 4) (now (st .args .s))) (omega arith) in
     omega (arith, e, room (c .before .before))
 
 add-result : tie.Need-add-result
@@ -73,9 +74,9 @@ returns-2 c =
     let el = p .before .before .before in
     let st = el .before .before .before .before in
     let i = st .args .i in
-    let e : i * 72 + 56 - (i * 72 + 4) ≡ 52 = omega arith in (
+    let e : i * awaiting-size + waiters-offset - (i * awaiting-size + 4) ≡ 52 = omega arith in (
       cond-false _ (st .args .k) (st .args .k + 1) (free el),
-      p .place .ensures ∙ ap (λ (n : ℕ). placed (st .args .k * 52) (part (i * 72 + 4) n (now (st .args .s))) (now (st .args .out))) e ∙ cond-false _ (now (st .args .out)) _ (free el),
+      p .place .ensures ∙ ap (λ (n : ℕ). placed (st .args .k * 52) (part (i * awaiting-size + 4) n (now (st .args .s))) (now (st .args .out))) e ∙ cond-false _ (now (st .args .out)) _ (free el),
     )
 
 pub list-one-spec : {M : Type 1} → statement M

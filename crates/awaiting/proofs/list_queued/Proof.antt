@@ -6,6 +6,7 @@ use mathlib.Core.Path.{_≡_, refl, sym, ap, _∙_}
 use mathlib.Core.List.{List}
 use Prim.Native.Nat.{ℕ, _+_, _*_, _≤_, _<_, _-_}
 use lib.ListN.{length, drop}
+use Rattle.layout.specs.Layout.{awaiting-size}
 use Rattle.model.specs.declared.delta_snapshot.Slot.{Slot}
 use Rattle.model.specs.Reads.{queued}
 use Rattle.image.specs.Area.{pending-of}
@@ -52,14 +53,14 @@ loop-again c =
     let r = queued (drop (i + 1) (pending-of (a .n) s)) in
     let h : i < a .n = omega arith in
     let f = queued-first (a .n) i s h in
-    let p : part (i * 72 + 4) 52 s ≡ slot-bytes (t .slot) = slot-part (a .n) i s (st .pre .0) h in
+    let p : part (i * awaiting-size + 4) 52 s ≡ slot-bytes (t .slot) = slot-part (a .n) i s (st .pre .0) h in
     let g = ap length f in
     let n = list-count (t .taken) (t .slot) r (l .loop .k) (x .list-one .result) (x .list-one .ensures .0) in (
       search needs,
       n ∙ ap (λ (y : ℕ). l .loop .k + y) (sym g) ∙ l .loop .inv .1,
-      list-length (t .taken) (l .loop .k) (part (i * 72 + 4) 52 s) (l .loop .out) _ (x .list-one .ensures .1) (ap length p ∙ length-slot (t .slot))
+      list-length (t .taken) (l .loop .k) (part (i * awaiting-size + 4) 52 s) (l .loop .out) _ (x .list-one .ensures .1) (ap length p ∙ length-slot (t .slot))
           (λ e. omega (arith, queue-room (a .n) i s h e, l .loop .inv .1, l .loop .inv .2, st .pre .1)) ∙ l .loop .inv .2,
-      list-step (t .taken) (t .slot) r (l .loop .k) (x .list-one .result) (part (i * 72 + 4) 52 s) (l .loop .out) _ p (x .list-one .ensures .0) (x .list-one .ensures .1) (omega (arith, g, l .loop .inv .1, l .loop .inv .2, st .pre .1))
+      list-step (t .taken) (t .slot) r (l .loop .k) (x .list-one .result) (part (i * awaiting-size + 4) 52 s) (l .loop .out) _ p (x .list-one .ensures .0) (x .list-one .ensures .1) (omega (arith, g, l .loop .inv .1, l .loop .inv .2, st .pre .1))
           ∙ ap (λ (ss : List Slot). placed (l .loop .k * 52) (slots-bytes ss) (l .loop .out)) (sym f) ∙ l .loop .inv .3,
     )
 

@@ -5,6 +5,7 @@ use denote.Ref.{now}
 use mathlib.Core.Path.{_≡_, refl, sym, _∙_}
 use Prim.Native.Nat.{_*_, _≤_, _-_}
 use lib.ListN.{length, drop}
+use Rattle.layout.specs.Layout.{awaiting-size}
 use Rattle.model.specs.Reads.{take-queued}
 use Rattle.image.specs.Area.{pending-of, with-pending}
 use Rattle.words.specs.Parts.{placed}
@@ -15,8 +16,8 @@ use Rattle.awaiting.proofs.mark_taken.Tie as tie
 
 abbrev Inv-loop : tie.InvT-loop
 Inv-loop s₀ n i₀ s i =
-    (i ≤ n) × (length s ≡ length s₀) × (drop (i * 72) s ≡ drop (i * 72) s₀)
-    × (placed (i * 72) (image-of (take-queued (drop i (pending-of n s₀)))) s ≡ with-pending n (take-queued (pending-of n s₀)) s₀)
+    (i ≤ n) × (length s ≡ length s₀) × (drop (i * awaiting-size) s ≡ drop (i * awaiting-size) s₀)
+    × (placed (i * awaiting-size) (image-of (take-queued (drop i (pending-of n s₀)))) s ≡ with-pending n (take-queued (pending-of n s₀)) s₀)
 
 abbrev μ-loop : tie.MeasureT-loop
 μ-loop s₀ n i₀ s i = n - i

@@ -28,7 +28,7 @@ said : (c : tie.After-same Inv-loop μ-loop) → let l = c .before .before .befo
 said c =
     let l = c .before .before .before in
     let a = l .before .before .args in
-    ap (λ (x : Slot). slot-eqb x (a .slot)) (sym (c .before .slot-in .ensures)) ∙ sym (c .same .ensures)
+    ap (λ (x : Slot). slot-eqb x (a .slot)) (sym (c .before .read-slot .ensures)) ∙ sym (c .same .ensures)
 
 loop-holds : tie.Need-loop-holds Inv-loop μ-loop
 loop-holds c = (search needs, refl)
@@ -36,8 +36,8 @@ loop-holds c = (search needs, refl)
 sub-loop : tie.Need-sub-loop Inv-loop μ-loop
 sub-loop c = search needs
 
-slot-in-requires : tie.Need-slot-in-requires Inv-loop μ-loop
-slot-in-requires c κs = search needs
+read-slot-requires : tie.Need-read-slot-requires Inv-loop μ-loop
+read-slot-requires c κs = search needs
 
 same-requires : tie.Need-same-requires Inv-loop μ-loop
 same-requires c κs = search needs
@@ -77,7 +77,7 @@ names-spec =
     μ-loop
     loop-holds
     sub-loop
-    slot-in-requires
+    read-slot-requires
     same-requires
     returns
     add-at

@@ -32,8 +32,8 @@ loop-holds c = let st = c .before .before in (search needs, search needs, refl, 
 sub-loop : tie.Need-sub-loop Inv-loop μ-loop
 sub-loop c = search needs
 
-slot-in-requires : tie.Need-slot-in-requires Inv-loop μ-loop
-slot-in-requires c κs = search needs
+read-slot-requires : tie.Need-read-slot-requires Inv-loop μ-loop
+read-slot-requires c κs = search needs
 
 remove-requires : tie.Need-remove-requires Inv-loop μ-loop
 remove-requires c κs = let l = c .before .before .before in l .loop .inv .3
@@ -51,14 +51,14 @@ loop-again c =
     let st = l .before .before .before in
     let a = st .args in
     let t = slot-of (drop (l .loop .at) (now (a .list))) in
-    let r = one-removed (a .n) (l .loop .k) (x .remove .result) (x .before .slot-in .result) (now (a .s)) (l .loop .s) _ (l .loop .inv .1) (l .loop .inv .3) (l .loop .inv .4) (x .remove .ensures) in
+    let r = one-removed (a .n) (l .loop .k) (x .remove .result) (x .before .read-slot .result) (now (a .s)) (l .loop .s) _ (l .loop .inv .1) (l .loop .inv .3) (l .loop .inv .4) (x .remove .ensures) in
     let d = drop (l .loop .at + a .stride) (now (a .list)) in (
       search needs,
       omega (arith, r .fewer, l .loop .inv .1),
       search needs,
       r .ready,
       r .from-first,
-      ap (remove-all-pending (entry-slots (a .stride) d)) (r .reads-as ∙ ap (λ (y : Slot). remove-pending y (pending-of (l .loop .k) (l .loop .s))) (x .before .slot-in .ensures))
+      ap (remove-all-pending (entry-slots (a .stride) d)) (r .reads-as ∙ ap (λ (y : Slot). remove-pending y (pending-of (l .loop .k) (l .loop .s))) (x .before .read-slot .ensures))
           ∙ sym (remove-first (a .stride) (l .loop .at) (now (a .list)) (omega arith) (omega arith) (pending-of (l .loop .k) (l .loop .s))) ∙ l .loop .inv .5,
     )
 
@@ -82,7 +82,7 @@ remove-all-spec =
     μ-loop
     loop-holds
     sub-loop
-    slot-in-requires
+    read-slot-requires
     remove-requires
     add-at
     loop-less

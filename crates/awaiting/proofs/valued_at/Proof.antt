@@ -24,8 +24,8 @@ returns c =
     let a = c .before .before .before .before .args in
     cond-true _ 0 (waiters-of (slot-of (drop (a .at) (now (a .list)))) (pending-of (a .n) (now (a .s)))) (eq-eqb (getD (now (a .list)) (a .at + 52) 0) 0 (c .if1 .taken))
 
-slot-in-requires : tie.Need-slot-in-requires
-slot-in-requires c κs = search needs
+read-slot-requires : tie.Need-read-slot-requires
+read-slot-requires c κs = search needs
 
 waiters-requires : tie.Need-waiters-requires
 waiters-requires c κs = search needs
@@ -34,10 +34,10 @@ returns-2 : tie.Need-returns-2
 returns-2 c =
     let a = c .before .before .before .before .before .before .args in
     let q = pending-of (a .n) (now (a .s)) in
-    c .waiters .ensures ∙ ap (λ (x : Slot). waiters-of x q) (c .before .slot-in .ensures)
+    c .waiters .ensures ∙ ap (λ (x : Slot). waiters-of x q) (c .before .read-slot .ensures)
     ∙ cond-false _ 0 (waiters-of (slot-of (drop (a .at) (now (a .list)))) q) (ne-eqb (getD (now (a .list)) (a .at + 52) 0) 0 (c .before .before .if1 .left))
 
 pub valued-at-spec : {M : Type 1} → statement M
 valued-at-spec =
     tie.close
-    (tie.spec add-if1 shared-slice-read-if1 returns slot-in-requires waiters-requires returns-2)
+    (tie.spec add-if1 shared-slice-read-if1 returns read-slot-requires waiters-requires returns-2)

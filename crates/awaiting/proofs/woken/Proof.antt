@@ -31,7 +31,7 @@ worth c =
     let st = l .before .before .before in
     let a = st .args in
     let q = pending-of (a .n) (now (a .s)) in
-    let e : c .waiters .result ≡ waiters-of (slot-of (drop (l .loop .at) (now (a .list)))) q = c .waiters .ensures ∙ ap (λ (x : Slot). waiters-of x q) (c .before .slot-in .ensures) in
+    let e : c .waiters .result ≡ waiters-of (slot-of (drop (l .loop .at) (now (a .list)))) q = c .waiters .ensures ∙ ap (λ (x : Slot). waiters-of x q) (c .before .read-slot .ensures) in
     omega (arith, e, l .loop .inv .1, woken-first (a .stride) (l .loop .at) (now (a .list)) (omega arith) (omega arith) q)
 
 loop-holds : tie.Need-loop-holds Inv-loop μ-loop
@@ -40,8 +40,8 @@ loop-holds c = search needs
 sub-loop : tie.Need-sub-loop Inv-loop μ-loop
 sub-loop c = search needs
 
-slot-in-requires : tie.Need-slot-in-requires Inv-loop μ-loop
-slot-in-requires c κs = search needs
+read-slot-requires : tie.Need-read-slot-requires Inv-loop μ-loop
+read-slot-requires c κs = search needs
 
 waiters-requires : tie.Need-waiters-requires Inv-loop μ-loop
 waiters-requires c κs = let st = c .before .before .before .before .before in rising-of (st .args .n) (now (st .args .s)) (st .pre .0)
@@ -78,7 +78,7 @@ woken-spec =
     μ-loop
     loop-holds
     sub-loop
-    slot-in-requires
+    read-slot-requires
     waiters-requires
     add-sum
     add-at

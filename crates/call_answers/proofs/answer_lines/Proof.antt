@@ -6,8 +6,8 @@ use mathlib.Core.List.{List}
 use native.Mathlib.Omega.{arith}
 use lib.ListN.{length}
 use denote.Ref.{now}
-use Rattle.listing.proofs.Placing.{written-as}
-use Rattle.listing.specs.Lines.{Written}
+use Rattle.digits.proofs.Writing.{written-as}
+use Rattle.digits.specs.Written.{Written}
 use Rattle.call_answers.specs.declared.CallAnswer.{CallAnswer}
 use Rattle.call_answers.specs.declared.CallAnswer.the-variants as answer
 use Rattle.call_answers.specs.Answers.{slots-listed, lines-of}

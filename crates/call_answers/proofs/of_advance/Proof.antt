@@ -1,7 +1,7 @@
 -- `call_answers::of_advance` meets its contract. Assumes nothing.
 use borrow.Author.Needs.{needs}
 use mathlib.Core.Path.{_≡_, sym, ap}
-use Rattle.known_advance.specs.declared.Advanced.the-variants as advance
+use Rattle.unchecked_advance.specs.declared.Advanced.the-variants as advance
 use Rattle.call_answers.specs.Answers.{advance-as}
 use Rattle.call_answers.proofs.of_advance.Statement.{statement}
 use Rattle.call_answers.proofs.of_advance.Tie as tie

@@ -1,9 +1,9 @@
 -- `call_answers::of_answer` meets its contract. Assumes nothing.
 use borrow.Author.Needs.{needs}
 use mathlib.Core.Path.{_≡_, sym, ap}
-use Rattle.known_reads.specs.declared.AnswerAnswer.{AnswerAnswer}
-use Rattle.known_reads.specs.declared.AnswerAnswer.the-variants as answer
-use Rattle.known_reads.specs.Answers.{answered-answer}
+use Rattle.unchecked_reads.specs.declared.AnswerAnswer.{AnswerAnswer}
+use Rattle.unchecked_reads.specs.declared.AnswerAnswer.the-variants as answer
+use Rattle.unchecked_reads.specs.Answers.{answered-answer}
 use Rattle.call_answers.specs.Answers.{call-answer}
 use Rattle.call_answers.proofs.of_answer.Statement.{statement}
 use Rattle.call_answers.proofs.of_answer.Tie as tie

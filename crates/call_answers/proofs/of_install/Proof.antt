@@ -1,9 +1,9 @@
 -- `call_answers::of_install` meets its contract. Assumes nothing.
 use borrow.Author.Needs.{needs}
 use mathlib.Core.Path.{_≡_, sym, ap}
-use Rattle.known.specs.declared.Installed.{Installed}
-use Rattle.known.specs.declared.Installed.the-variants as install
-use Rattle.known.specs.Answers.{installed-answer}
+use Rattle.unchecked_calls.specs.declared.Installed.{Installed}
+use Rattle.unchecked_calls.specs.declared.Installed.the-variants as install
+use Rattle.unchecked_calls.specs.Answers.{installed-answer}
 use Rattle.call_answers.specs.Answers.{call-answer}
 use Rattle.call_answers.proofs.of_install.Statement.{statement}
 use Rattle.call_answers.proofs.of_install.Tie as tie

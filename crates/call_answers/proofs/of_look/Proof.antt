@@ -1,9 +1,9 @@
 -- `call_answers::of_look` meets its contract. Assumes nothing.
 use borrow.Author.Needs.{needs}
 use mathlib.Core.Path.{_≡_, sym, ap}
-use Rattle.known.specs.declared.Looked.{Looked}
-use Rattle.known.specs.declared.Looked.the-variants as look
-use Rattle.known.specs.Answers.{looked-answer}
+use Rattle.unchecked_calls.specs.declared.Looked.{Looked}
+use Rattle.unchecked_calls.specs.declared.Looked.the-variants as look
+use Rattle.unchecked_calls.specs.Answers.{looked-answer}
 use Rattle.call_answers.specs.Answers.{call-answer}
 use Rattle.call_answers.proofs.of_look.Statement.{statement}
 use Rattle.call_answers.proofs.of_look.Tie as tie

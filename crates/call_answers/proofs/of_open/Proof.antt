@@ -1,9 +1,9 @@
 -- `call_answers::of_open` meets its contract. Assumes nothing.
 use borrow.Author.Needs.{needs}
 use mathlib.Core.Path.{_≡_, sym, ap}
-use Rattle.known.specs.declared.Opened.{Opened}
-use Rattle.known.specs.declared.Opened.the-variants as opening
-use Rattle.known.specs.Answers.{opened-answer}
+use Rattle.unchecked_calls.specs.declared.Opened.{Opened}
+use Rattle.unchecked_calls.specs.declared.Opened.the-variants as opening
+use Rattle.unchecked_calls.specs.Answers.{opened-answer}
 use Rattle.call_answers.specs.Answers.{call-answer}
 use Rattle.call_answers.proofs.of_open.Statement.{statement}
 use Rattle.call_answers.proofs.of_open.Tie as tie

@@ -1,9 +1,9 @@
 -- `call_answers::of_put` meets its contract. Assumes nothing.
 use borrow.Author.Needs.{needs}
 use mathlib.Core.Path.{_≡_, sym, ap}
-use Rattle.known.specs.declared.PutAnswer.{PutAnswer}
-use Rattle.known.specs.declared.PutAnswer.the-variants as put
-use Rattle.known.specs.Answers.{put-answer}
+use Rattle.unchecked_calls.specs.declared.PutAnswer.{PutAnswer}
+use Rattle.unchecked_calls.specs.declared.PutAnswer.the-variants as put
+use Rattle.unchecked_calls.specs.Answers.{put-answer}
 use Rattle.call_answers.specs.Answers.{call-answer}
 use Rattle.call_answers.proofs.of_put.Statement.{statement}
 use Rattle.call_answers.proofs.of_put.Tie as tie

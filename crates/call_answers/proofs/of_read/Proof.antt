@@ -1,9 +1,9 @@
 -- `call_answers::of_read` meets its contract. Assumes nothing.
 use borrow.Author.Needs.{needs}
 use mathlib.Core.Path.{_≡_, sym, ap}
-use Rattle.known_reads.specs.declared.ReadAnswer.{ReadAnswer}
-use Rattle.known_reads.specs.declared.ReadAnswer.the-variants as read
-use Rattle.known_reads.specs.Answers.{read-answer}
+use Rattle.unchecked_reads.specs.declared.ReadAnswer.{ReadAnswer}
+use Rattle.unchecked_reads.specs.declared.ReadAnswer.the-variants as read
+use Rattle.unchecked_reads.specs.Answers.{read-answer}
 use Rattle.call_answers.specs.Answers.{call-answer}
 use Rattle.call_answers.proofs.of_read.Statement.{statement}
 use Rattle.call_answers.proofs.of_read.Tie as tie

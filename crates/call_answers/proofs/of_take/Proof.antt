@@ -1,7 +1,7 @@
 -- `call_answers::of_take` meets its contract. Assumes nothing.
 use borrow.Author.Needs.{needs}
 use mathlib.Core.Path.{_≡_, sym, ap}
-use Rattle.known_reads.specs.declared.TakeAnswer.the-variants as take
+use Rattle.unchecked_reads.specs.declared.TakeAnswer.the-variants as take
 use Rattle.call_answers.specs.Answers.{take-as}
 use Rattle.call_answers.proofs.of_take.Statement.{statement}
 use Rattle.call_answers.proofs.of_take.Tie as tie

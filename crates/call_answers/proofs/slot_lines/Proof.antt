@@ -10,7 +10,8 @@ use Rattle.model.specs.declared.delta_snapshot.Slot.{Slot}
 use Rattle.model.specs.Entries.{first-slots}
 use Rattle.words.specs.Parts.{placed}
 use Rattle.call_list.specs.Listing.{ascii, line, slot-hex, slot-lines}
-use Rattle.listing.proofs.Placing.{placed-nil, written-as, written-left}
+use Rattle.entries.proofs.Placing.{placed-nil}
+use Rattle.digits.proofs.Writing.{written-as, written-left}
 use Rattle.listing.proofs.Lengths.{slot-line-length}
 use Rattle.call_answers.proofs.Slots.{slots-from, lines-at, lines-end, length-lines}
 use Rattle.call_answers.proofs.slot_lines.Statement.{statement}

@@ -1,7 +1,7 @@
 -- `call_answers::take_lines` meets its contract. Assumes nothing.
 use borrow.Author.Needs.{needs}
 use native.Mathlib.Omega.{arith}
-use Rattle.listing.proofs.Placing.{written-then}
+use Rattle.digits.proofs.Writing.{written-then}
 use Rattle.listing.proofs.Lengths.{take-line-length}
 use Rattle.call_answers.proofs.take_lines.Statement.{statement}
 use Rattle.call_answers.proofs.take_lines.Tie as tie

@@ -6,13 +6,14 @@ use native.Mathlib.Omega.{arith}
 use lib.ListN.{length}
 use denote.Ref.{now}
 use borrow.Author.Needs.{needs}
+use Rattle.model.specs.Refusals.{store-size}
 use Rattle.call_print.proofs.Parts.{enough, falls}
 use Rattle.call_print.proofs.print_parts.Statement.{statement}
 use Rattle.call_print.proofs.print_parts.Tie as tie
 
 abbrev Inv-loop : tie.InvT-loop
 Inv-loop fd list s₀ work₀ entries₀ members₀ out₀ next₀ ended₀ s work entries members out next ended =
-    (length s ≡ 33472) × (length work ≡ 33472) × (length entries ≡ 53248) × (length members ≡ 105060) × (length out ≡ 65536)
+    (length s ≡ store-size 256) × (length work ≡ store-size 256) × (length entries ≡ 53248) × (length members ≡ 105060) × (length out ≡ 65536)
 
 abbrev μ-loop : tie.MeasureT-loop
 μ-loop fd list s₀ work₀ entries₀ members₀ out₀ next₀ ended₀ s work entries members out next ended =

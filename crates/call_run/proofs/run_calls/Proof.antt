@@ -7,7 +7,7 @@ use native.Mathlib.Omega.{arith}
 use lib.Dec.{lit<}
 use lib.ListN.{length}
 use denote.Ref.{now}
-use Rattle.call_run.specs.Run.{call-lines}
+use Rattle.call_progress.specs.Progress.{call-lines}
 use Rattle.call_run.specs.Inner.{RunOn}
 use Rattle.call_run.proofs.Room.{goes-on-true, goes-on-false}
 use Rattle.call_run.proofs.Running.{ran-none, ran-then, same-lent}

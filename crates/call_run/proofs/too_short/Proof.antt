@@ -7,7 +7,7 @@ use mathlib.Core.Bool.{Bool, _||_}
 use lib.Dec.{ltb}
 use lib.ListN.{length}
 use denote.Ref.{now}
-use Rattle.call_run.specs.Run.{call-lines}
+use Rattle.call_progress.specs.Progress.{call-lines}
 use Rattle.call_run.proofs.too_short.Statement.{statement}
 use Rattle.call_run.proofs.too_short.Tie as tie
 

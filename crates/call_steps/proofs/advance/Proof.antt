@@ -45,7 +45,7 @@ part-advance-end-2 : tie.Need-part-advance-end-2
 part-advance-end-2 c = search needs
 
 advance-requires : tie.Need-advance-requires
-advance-requires c κs = c .before .before .before .before .before .before .before .before .before .before .before .pre .0
+advance-requires c κs = c .before .before .before .before .before .before .before .before .before .before .before .before .before .pre .0
 
 of-advance-requires : tie.Need-of-advance-requires
 of-advance-requires c κs = search needs
@@ -62,12 +62,12 @@ same-length-3 c = search needs
 returns : tie.Need-returns
 returns c =
     let x = c .before .before .before .before .before .before .before in
-    let b = x .before .before .before .before .before .before .before .before .before .before .before .before in
+    let b = x .before .before .before .before .before .before .before .before .before .before .before .before .before .before in
     let a = b .args in
     let l : List ℕ = now (a .list) in
     named-as (now (a .s)) (length (now (a .work))) (now (a .entries))
-    (ap₂ (λ (rs : List Address) (ws : List Write). on-store (store.advance (a .child) (a .parent-hash) (a .skip) rs ws)) (sym (addresses-lent l (a .addresses) (b .pre .1))) (sym (writes-lent l (a .writes) (b .pre .2))))
-    (advanced-as (now (a .s)) (length (now (a .work))) (now (a .entries)) (a .child) (a .parent-hash) (a .skip) _ _ (c .of-advance .ensures) (x .advance .ensures))
+    (ap₂ (λ (rs : List Address) (ws : List Write). on-store (store.advance (a .child) (a .parent-hash) (a .prepared .skip) rs ws)) (sym (addresses-lent l (a .prepared .relevance) (b .pre .1 .0))) (sym (writes-lent l (a .prepared .writes) (b .pre .1 .1))))
+    (advanced-as (now (a .s)) (length (now (a .work))) (now (a .entries)) (a .child) (a .parent-hash) (a .prepared .skip) _ _ (c .of-advance .ensures) (x .advance .ensures))
 
 pub advance-spec : {M : Type 1} → statement M
 advance-spec =

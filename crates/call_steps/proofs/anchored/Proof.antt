@@ -8,6 +8,7 @@ use Rattle.model.specs.Layers.{is-some}
 use Rattle.model.specs.Store.{Call, on-store, at-anchor}
 use Rattle.call_reader.specs.declared.AnchoredCall.{AnchoredCall}
 use Rattle.call_reader.specs.declared.AnchoredCall.the-variants.{Look, Get, Put, Read, Answer, AnswerFailed}
+use Rattle.call_list.specs.Meaning.{anchored-meaning}
 use Rattle.call_reader.specs.Calls.{anchored-of, anchored-within}
 use Rattle.call_steps.specs.Steps.{AnchoredThere}
 use Rattle.call_steps.proofs.Said.{plain-look, plain-get, plain-put, plain-read, silent-look, silent-put, silent-read, named-as, stepped-as, took-as}
@@ -17,7 +18,7 @@ use Rattle.call_steps.proofs.anchored.Tie as tie
 
 -- The model's call.
 abbrev called : ReadAnchor → List ℕ → AnchoredCall → Call
-called a l k = on-store (at-anchor a (anchored-of l k))
+called a l k = on-store (at-anchor a (anchored-meaning (anchored-of l k)))
 
 -- The calls that have lists, and where these stand.
 an-answer : (c : tie.After-known-told5) → c .before .before .before .before .before .before .before .args .call ≡ Answer (c .before .call5 .given .0 .0)

@@ -5,20 +5,21 @@ use mathlib.Core.List.{List}
 use lib.ListN.{length}
 use denote.Ref.{now}
 use Rattle.model.specs.Layers.{is-some}
+use Rattle.call_list.specs.Meaning.{default-limits}
 use Rattle.call_reader.specs.declared.ListedCall.{ListedCall}
-use Rattle.call_reader.specs.declared.ListedCall.the-variants.{Open, Install, Advance, Anchored}
-use Rattle.call_reader.specs.Calls.{call-of, call-within}
-use Rattle.call_steps.specs.Steps.{CallThere}
-use Rattle.call_steps.proofs.Said.{plain-open, plain-install, silent-open, silent-install, named-as, stepped-as}
+use Rattle.call_reader.specs.declared.ListedCall.the-variants.{OpenDefault, OpenWith, Install, Advance, Anchored}
+use Rattle.call_reader.specs.Calls.{call-within}
+use Rattle.call_steps.specs.Steps.{CallThere, meant}
+use Rattle.call_steps.proofs.Said.{plain-install, silent-install, named-as, stepped-as}
 use borrow.Author.Needs.{needs}
 use Rattle.call_steps.proofs.on_store.Statement.{statement}
 use Rattle.call_steps.proofs.on_store.Tie as tie
 
 -- The calls that have lists, and where these stand.
-an-advance : (c : tie.After-known-told3) → let g = c .before .call3 .given .0 in c .before .before .before .before .before .before .before .before .args .call ≡ Advance (g .0) (g .1 .0) (g .1 .1 .0) (g .1 .1 .1 .0) (g .1 .1 .1 .1 .0)
+an-advance : (c : tie.After-known-told4) → let g = c .before .call4 .given .0 in c .before .before .before .before .before .before .before .before .args .call ≡ Advance (g .0) (g .1 .0) (g .1 .1 .0)
 an-advance c = search needs
 
-an-anchored : (c : tie.After-known-told4) → let g = c .before .call4 .given .0 in c .before .before .before .before .before .before .before .before .args .call ≡ Anchored (g .0) (g .1 .0)
+an-anchored : (c : tie.After-known-told5) → let g = c .before .call5 .given .0 in c .before .before .before .before .before .before .before .before .args .call ≡ Anchored (g .0) (g .1 .0)
 an-anchored c = search needs
 
 there : (l : List ℕ) (k x : ListedCall) (h : CallThere l k) → k ≡ x → call-within l (h .next) x
@@ -27,14 +28,17 @@ there l k x h q = subst (λ (y : ListedCall). call-within l (h .next) y) q (h .w
 enum-known-call : tie.Need-enum-known-call
 enum-known-call c = search needs
 
-open-requires : tie.Need-open-requires
-open-requires c κs = search needs
-
-of-open-requires : tie.Need-of-open-requires
-of-open-requires c κs = search needs
+open-default-requires : tie.Need-open-default-requires
+open-default-requires c κs = search needs
 
 enum-known-call-2 : tie.Need-enum-known-call-2
 enum-known-call-2 c = search needs
+
+open-requires : tie.Need-open-requires
+open-requires c κs = search needs
+
+enum-known-call-3 : tie.Need-enum-known-call-3
+enum-known-call-3 c = search needs
 
 install-requires : tie.Need-install-requires
 install-requires c κs = ap is-some (c .before .before .before .before .before .before .before .before .before .pre .0)
@@ -42,17 +46,17 @@ install-requires c κs = ap is-some (c .before .before .before .before .before .
 of-install-requires : tie.Need-of-install-requires
 of-install-requires c κs = search needs
 
-enum-known-call-3 : tie.Need-enum-known-call-3
-enum-known-call-3 c = search needs
+enum-known-call-4 : tie.Need-enum-known-call-4
+enum-known-call-4 c = search needs
 
 advance-requires : tie.Need-advance-requires
 advance-requires c κs =
     let t = c .before .before .before in
     let b = t .before .before .before .before .before .before .before .before in
-    let h = there (now (b .args .list)) (b .args .call) _ (b .pre .1) (an-advance t) in (b .pre .0, h .0, h .1)
+    let h = there (now (b .args .list)) (b .args .call) _ (b .pre .1) (an-advance t) in (b .pre .0, h)
 
-enum-known-call-4 : tie.Need-enum-known-call-4
-enum-known-call-4 c = search needs
+enum-known-call-5 : tie.Need-enum-known-call-5
+enum-known-call-5 c = search needs
 
 anchored-requires : tie.Need-anchored-requires
 anchored-requires c κs =
@@ -65,24 +69,31 @@ same-length c = search needs
 
 returns : tie.Need-returns
 returns c =
-    let t = c .before .before .before .before .before in
+    let t = c .before .before .before .before in
     let a = t .before .before .before .before .before .before .before .before .args in
-    let g = t .before .call .given .0 in
-    let q : a .call ≡ Open (g .0) (g .1 .0) (g .1 .1 .0) = search needs in
-    stepped-as (now (a .s)) (length (now (a .work))) (now (a .entries)) (ap (call-of (now (a .list))) q) (plain-open _ _ _) (silent-open (c .before .before .before .«open» .result)) (c .of-open .ensures) (c .before .before .before .«open» .ensures)
+    let q : a .call ≡ OpenDefault (t .before .call .given .0 .0) = search needs in
+    named-as (now (a .s)) (length (now (a .work))) (now (a .entries)) (ap (meant (now (a .list))) q) (c .before .before .open-default .ensures (length (now (a .work))) (now (a .entries)))
 
 same-length-2 : tie.Need-same-length-2
 same-length-2 c = search needs
 
 returns-2 : tie.Need-returns-2
 returns-2 c =
-    let t = c .before .before .before .before .before in
+    let t = c .before .before .before .before in
     let a = t .before .before .before .before .before .before .before .before .args in
-    let q : a .call ≡ Install (t .before .call2 .given .0 .0) = search needs in
-    stepped-as (now (a .s)) (length (now (a .work))) (now (a .entries)) (ap (call-of (now (a .list))) q) (plain-install _) (silent-install (c .before .before .before .install .result)) (c .of-install .ensures) (c .before .before .before .install .ensures)
+    let g = t .before .call2 .given .0 in
+    let q : a .call ≡ OpenWith (g .0) (g .1 .0) (g .1 .1 .0) = search needs in
+    named-as (now (a .s)) (length (now (a .work))) (now (a .entries)) (ap (meant (now (a .list))) q) (c .before .before .«open» .ensures default-limits (length (now (a .work))) (now (a .entries)))
 
 same-length-3 : tie.Need-same-length-3
 same-length-3 c = search needs
+
+returns-3 : tie.Need-returns-3
+returns-3 c =
+    let t = c .before .before .before .before .before in
+    let a = t .before .before .before .before .before .before .before .before .args in
+    let q : a .call ≡ Install (t .before .call3 .given .0 .0) = search needs in
+    stepped-as (now (a .s)) (length (now (a .work))) (now (a .entries)) (ap (meant (now (a .list))) q) (plain-install _) (silent-install (c .before .before .before .install .result)) (c .of-install .ensures) (c .before .before .before .install .ensures)
 
 same-length-4 : tie.Need-same-length-4
 same-length-4 c = search needs
@@ -90,15 +101,15 @@ same-length-4 c = search needs
 same-length-5 : tie.Need-same-length-5
 same-length-5 c = search needs
 
-returns-3 : tie.Need-returns-3
-returns-3 c =
+same-length-6 : tie.Need-same-length-6
+same-length-6 c = search needs
+
+returns-4 : tie.Need-returns-4
+returns-4 c =
     let x = c .before .before .before .before .before .before in
     let t = x .before .before .before .before in
     let a = t .before .before .before .before .before .before .before .before .args in
-    named-as (now (a .s)) (length (now (a .work))) (now (a .entries)) (ap (call-of (now (a .list))) (an-advance t)) (x .advance .ensures)
-
-same-length-6 : tie.Need-same-length-6
-same-length-6 c = search needs
+    named-as (now (a .s)) (length (now (a .work))) (now (a .entries)) (ap (meant (now (a .list))) (an-advance t)) (x .advance .ensures)
 
 same-length-7 : tie.Need-same-length-7
 same-length-7 c = search needs
@@ -106,36 +117,42 @@ same-length-7 c = search needs
 same-length-8 : tie.Need-same-length-8
 same-length-8 c = search needs
 
-returns-4 : tie.Need-returns-4
-returns-4 c =
+same-length-9 : tie.Need-same-length-9
+same-length-9 c = search needs
+
+returns-5 : tie.Need-returns-5
+returns-5 c =
     let x = c .before .before .before .before .before .before in
     let t = x .before .before .before .before in
     let a = t .before .before .before .before .before .before .before .before .args in
-    named-as (now (a .s)) (length (now (a .work))) (now (a .entries)) (ap (call-of (now (a .list))) (an-anchored t)) (x .anchored .ensures (length (now (a .work))))
+    named-as (now (a .s)) (length (now (a .work))) (now (a .entries)) (ap (meant (now (a .list))) (an-anchored t)) (x .anchored .ensures (length (now (a .work))))
 
 pub on-store-spec : {M : Type 1} → statement M
 on-store-spec =
     tie.close
     (tie.spec
     enum-known-call
-    open-requires
-    of-open-requires
+    open-default-requires
     enum-known-call-2
+    open-requires
+    enum-known-call-3
     install-requires
     of-install-requires
-    enum-known-call-3
-    advance-requires
     enum-known-call-4
+    advance-requires
+    enum-known-call-5
     anchored-requires
     same-length
     returns
     same-length-2
     returns-2
     same-length-3
+    returns-3
     same-length-4
     same-length-5
-    returns-3
     same-length-6
+    returns-4
     same-length-7
     same-length-8
-    returns-4)
+    same-length-9
+    returns-5)

@@ -1,4 +1,4 @@
--- `call_steps::step` meets its contract: as `known` says, on a store or on other bytes. Assumes nothing.
+-- `call_steps::step` meets its contract: as `unchecked_calls` says, on a store or on other bytes. Assumes nothing.
 use mathlib.Core.Path.{sym, _∙_}
 use lib.ListN.{length}
 use denote.Ref.{now}

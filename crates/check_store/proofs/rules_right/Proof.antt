@@ -6,6 +6,7 @@ use Prim.Native.Nat.{_-_, _<_}
 use lib.ListN.{length, take, drop}
 use denote.Ref.{now}
 use lib.Dec.{lit<}
+use Rattle.layout.specs.Layout.{ends-limit, header-width, records-offset}
 use Rattle.model.specs.declared.delta_snapshot.Retention.{Retention}
 use Rattle.rules.specs.Rules.{cross-rules}
 use Rattle.image.specs.Area.{records-of}
@@ -20,7 +21,7 @@ word-requires-2 : tie.Need-word-requires-2
 word-requires-2 c κs = search needs
 
 word-requires-3 : tie.Need-word-requires-3
-word-requires-3 c κs = omega (arith, parts-counts (now (c .before .before .before .args .s)) (c .before .before .before .pre .1) .depth, c .before .word .ensures 24 (lit< tt), c .before .before .before .pre .0)
+word-requires-3 c κs = omega (arith, parts-counts (now (c .before .before .before .args .s)) (c .before .before .before .pre .1) .depth, c .before .word .ensures header-width (lit< tt), c .before .before .before .pre .0)
 
 word-requires-4 : tie.Need-word-requires-4
 word-requires-4 c κs = search needs
@@ -44,17 +45,17 @@ word-requires-6 : tie.Need-word-requires-6
 word-requires-6 c κs = search needs
 
 cross-rules-requires : tie.Need-cross-rules-requires
-cross-rules-requires c κs = omega (arith, parts-counts (now (c .before .before .before .before .before .before .before .before .before .args .s)) (c .before .before .before .before .before .before .before .before .before .pre .1) .records, c .before .before .before .before .before .before .word2 .ensures 24 (lit< tt), c .before .before .before .before .before .before .before .before .before .pre .0)
+cross-rules-requires c κs = omega (arith, parts-counts (now (c .before .before .before .before .before .before .before .before .before .args .s)) (c .before .before .before .before .before .before .before .before .before .pre .1) .records, c .before .before .before .before .before .before .word2 .ensures header-width (lit< tt), c .before .before .before .before .before .before .before .before .before .pre .0)
 
 returns : tie.Need-returns
 returns c =
     let s = now (c .before .before .before .before .before .before .before .before .before .before .args .s) in
     let d = c .before .before .before .before .before .before .before .before .word .result in
     let n = c .before .before .before .before .before .before .before .word2 .result in
-    let h : d < 256 = omega (arith, parts-counts s (c .before .before .before .before .before .before .before .before .before .before .pre .1) .depth, c .before .before .before .before .before .before .before .before .word .ensures 24 (lit< tt), c .before .before .before .before .before .before .before .before .before .before .pre .0) in
+    let h : d < 256 = omega (arith, parts-counts s (c .before .before .before .before .before .before .before .before .before .before .pre .1) .depth, c .before .before .before .before .before .before .before .before .word .ensures header-width (lit< tt), c .before .before .before .before .before .before .before .before .before .before .pre .0) in
     c .cross-rules .ensures
-    ∙ ap (λ (R : Retention). cross-rules R (c .before .word6 .result) (c .before .before .before .before .before .before .word3 .result) (records-of n (take (length s - 6848) (drop 6848 s)))) (c .before .before .before .retention .ensures)
-    ∙ rules-law s d n (c .before .before .before .before .before .before .word3 .result) (c .before .before .before .before .before .word4 .result) (c .before .before .before .before .word5 .result) (c .before .word6 .result) (c .before .before .before .before .before .before .before .before .before .before .pre .0) (c .before .before .before .before .before .before .before .before .before .before .pre .1) (c .before .before .before .before .before .before .before .before .word .ensures 24 (lit< tt)) (c .before .before .before .before .before .before .before .word2 .ensures 24 (lit< tt)) (c .before .before .before .before .before .before .word3 .ensures 256 h) (c .before .before .before .before .before .word4 .ensures 24 (lit< tt)) (c .before .before .before .before .word5 .ensures 24 (lit< tt)) (c .before .word6 .ensures 24 (lit< tt))
+    ∙ ap (λ (R : Retention). cross-rules R (c .before .word6 .result) (c .before .before .before .before .before .before .word3 .result) (records-of n (take (length s - records-offset) (drop records-offset s)))) (c .before .before .before .retention .ensures)
+    ∙ rules-law s d n (c .before .before .before .before .before .before .word3 .result) (c .before .before .before .before .before .word4 .result) (c .before .before .before .before .word5 .result) (c .before .word6 .result) (c .before .before .before .before .before .before .before .before .before .before .pre .0) (c .before .before .before .before .before .before .before .before .before .before .pre .1) (c .before .before .before .before .before .before .before .before .word .ensures header-width (lit< tt)) (c .before .before .before .before .before .before .before .word2 .ensures header-width (lit< tt)) (c .before .before .before .before .before .before .word3 .ensures ends-limit h) (c .before .before .before .before .before .word4 .ensures header-width (lit< tt)) (c .before .before .before .before .word5 .ensures header-width (lit< tt)) (c .before .word6 .ensures header-width (lit< tt))
 
 pub rules-right-spec : {M : Type 1} → statement M
 rules-right-spec =

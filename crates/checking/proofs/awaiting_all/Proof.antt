@@ -7,6 +7,7 @@ use mathlib.Core.Bool.{Bool, _&&_}
 use lib.ListN.{drop}
 use denote.Ref.{now}
 use borrow.Author.Tests.{not-true, not-false}
+use Rattle.layout.specs.Layout.{awaiting-width}
 use Rattle.checking.specs.Checks.{all-of, awaiting-right, rows}
 use Rattle.checking.proofs.Steps.{row-next}
 use Rattle.checking.proofs.Rows.{all-end, length-rows}
@@ -14,7 +15,7 @@ use Rattle.checking.proofs.awaiting_all.Statement.{statement}
 use Rattle.checking.proofs.awaiting_all.Tie as tie
 
 abbrev Inv-loop : tie.InvT-loop
-Inv-loop s n i₀ i = (i ≤ n) × (all-of awaiting-right (rows 9 n s) ≡ all-of awaiting-right (drop i (rows 9 n s)))
+Inv-loop s n i₀ i = (i ≤ n) × (all-of awaiting-right (rows awaiting-width n s) ≡ all-of awaiting-right (drop i (rows awaiting-width n s)))
 
 abbrev μ-loop : tie.MeasureT-loop
 μ-loop s n i₀ i = n - i
@@ -23,12 +24,12 @@ abbrev μ-loop : tie.MeasureT-loop
 said : (c : tie.After-awaiting-right Inv-loop μ-loop) →
     let l = c .before .before in
     let a = l .before .before .args in
-    let es = rows 9 (a .n) (now (a .s)) in
+    let es = rows awaiting-width (a .n) (now (a .s)) in
     all-of awaiting-right (drop (l .loop .i) es) ≡ (c .awaiting-right .result && all-of awaiting-right (drop (l .loop .i + 1) es))
 said c =
     let l = c .before .before in
     let a = l .before .before .args in
-    row-next 9 (a .n) (l .loop .i) awaiting-right (now (a .s)) (search needs) ∙ ap (λ (t : Bool). t && all-of awaiting-right (drop (l .loop .i + 1) (rows 9 (a .n) (now (a .s))))) (sym (c .awaiting-right .ensures))
+    row-next awaiting-width (a .n) (l .loop .i) awaiting-right (now (a .s)) (search needs) ∙ ap (λ (t : Bool). t && all-of awaiting-right (drop (l .loop .i + 1) (rows awaiting-width (a .n) (now (a .s))))) (sym (c .awaiting-right .ensures))
 
 loop-holds : tie.Need-loop-holds Inv-loop μ-loop
 loop-holds c = (search needs, refl)
@@ -59,7 +60,7 @@ returns-2 : tie.Need-returns-2 Inv-loop μ-loop
 returns-2 c =
     let l = c .before in
     let a = l .before .before .args in
-    sym (l .loop .inv .1 ∙ all-end awaiting-right (rows 9 (a .n) (now (a .s))) (l .loop .i) (omega (arith, length-rows 9 (a .n) (now (a .s)))))
+    sym (l .loop .inv .1 ∙ all-end awaiting-right (rows awaiting-width (a .n) (now (a .s))) (l .loop .i) (omega (arith, length-rows awaiting-width (a .n) (now (a .s)))))
 
 pub awaiting-all-spec : {M : Type 1} → statement M
 awaiting-all-spec =

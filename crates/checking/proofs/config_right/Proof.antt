@@ -3,6 +3,7 @@ use borrow.Author.Needs.{needs}
 use mathlib.Core.Path.{_∙_}
 use denote.Ref.{now}
 use lib.Dec.{lit<}
+use Rattle.layout.specs.Layout.{header-width}
 use Rattle.image.specs.Image.{words-of}
 use Rattle.checking.proofs.Parts.{config-same}
 use Rattle.checking.proofs.config_right.Statement.{statement}
@@ -27,7 +28,7 @@ config-words-requires : tie.Need-config-words-requires
 config-words-requires c κs = search needs
 
 returns : tie.Need-returns
-returns c = c .config-words .ensures ∙ config-same (words-of 24 (now (c .before .before .before .before .before .before .before .args .s))) _ _ _ _ _ (c .before .before .before .before .before .word .ensures 24 (lit< tt)) (c .before .before .before .before .word2 .ensures 24 (lit< tt)) (c .before .before .before .word3 .ensures 24 (lit< tt)) (c .before .before .word4 .ensures 24 (lit< tt)) (c .before .word5 .ensures 24 (lit< tt))
+returns c = c .config-words .ensures ∙ config-same (words-of header-width (now (c .before .before .before .before .before .before .before .args .s))) _ _ _ _ _ (c .before .before .before .before .before .word .ensures header-width (lit< tt)) (c .before .before .before .before .word2 .ensures header-width (lit< tt)) (c .before .before .before .word3 .ensures header-width (lit< tt)) (c .before .before .word4 .ensures header-width (lit< tt)) (c .before .word5 .ensures header-width (lit< tt))
 
 pub config-right-spec : {M : Type 1} → statement M
 config-right-spec =

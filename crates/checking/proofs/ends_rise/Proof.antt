@@ -8,6 +8,7 @@ use lib.ListN.{take, drop}
 use denote.Ref.{now}
 use lib.Dec.{leb}
 use borrow.Author.Tests.{le-leb, lt-leb}
+use Rattle.layout.specs.Layout.{ends-limit}
 use Rattle.image.specs.Image.{words-of}
 use Rattle.image.proofs.Words.{length-words-of}
 use Rattle.checking.specs.Checks.{ends-rise}
@@ -16,7 +17,7 @@ use Rattle.checking.proofs.ends_rise.Statement.{statement}
 use Rattle.checking.proofs.ends_rise.Tie as tie
 
 abbrev Inv-loop : tie.InvT-loop
-Inv-loop s depth n from₀ k₀ from k = (k ≤ depth + 1) × (ends-rise n 0 (take (suc depth) (words-of 256 s)) ≡ ends-rise n from (drop k (take (suc depth) (words-of 256 s))))
+Inv-loop s depth n from₀ k₀ from k = (k ≤ depth + 1) × (ends-rise n 0 (take (suc depth) (words-of ends-limit s)) ≡ ends-rise n from (drop k (take (suc depth) (words-of ends-limit s))))
 
 abbrev μ-loop : tie.MeasureT-loop
 μ-loop s depth n from₀ k₀ from k = depth + 1 - k
@@ -25,12 +26,12 @@ abbrev μ-loop : tie.MeasureT-loop
 said : (c : tie.After-word Inv-loop μ-loop) →
     let l = c .before .before in
     let a = l .before .before .args in
-    let es = take (suc (a .depth)) (words-of 256 (now (a .s))) in
+    let es = take (suc (a .depth)) (words-of ends-limit (now (a .s))) in
     ends-rise (a .n) (l .loop .from) (drop (l .loop .k) es) ≡ (leb (l .loop .from) (c .word .result) && ends-rise (a .n) (c .word .result) (drop (l .loop .k + 1) es))
 said c =
     let l = c .before .before in
     let a = l .before .before .args in
-    ends-next (a .n) (l .loop .from) (l .loop .k) (a .depth) (c .word .result) (words-of 256 (now (a .s))) (search needs) (omega (arith, length-words-of 256 (now (a .s)))) (c .word .ensures 256 (search needs))
+    ends-next (a .n) (l .loop .from) (l .loop .k) (a .depth) (c .word .result) (words-of ends-limit (now (a .s))) (search needs) (omega (arith, length-words-of ends-limit (now (a .s)))) (c .word .ensures ends-limit (search needs))
 
 loop-holds : tie.Need-loop-holds Inv-loop μ-loop
 loop-holds c = (search needs, refl)
@@ -62,7 +63,7 @@ returns-2 : tie.Need-returns-2 Inv-loop μ-loop
 returns-2 c =
     let l = c .before in
     let a = l .before .before .args in
-    sym (l .loop .inv .1 ∙ ends-end (a .n) (l .loop .from) (l .loop .k) (a .depth) (words-of 256 (now (a .s))) (search needs))
+    sym (l .loop .inv .1 ∙ ends-end (a .n) (l .loop .from) (l .loop .k) (a .depth) (words-of ends-limit (now (a .s))) (search needs))
 
 pub ends-rise-spec : {M : Type 1} → statement M
 ends-rise-spec =

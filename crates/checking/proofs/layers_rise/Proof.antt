@@ -7,6 +7,7 @@ use mathlib.Core.Bool.{Bool, true, _&&_}
 use lib.ListN.{take, drop}
 use denote.Ref.{now}
 use borrow.Author.Tests.{not-true, not-false}
+use Rattle.layout.specs.Layout.{ends-limit, record-width}
 use Rattle.image.specs.Image.{words-of}
 use Rattle.image.proofs.Words.{length-words-of}
 use Rattle.checking.specs.Checks.{ends-rise, layers-rise, rows}
@@ -15,7 +16,7 @@ use Rattle.checking.proofs.layers_rise.Statement.{statement}
 use Rattle.checking.proofs.layers_rise.Tie as tie
 
 abbrev Inv-loop : tie.InvT-loop
-Inv-loop ends s depth n from₀ k₀ from k = (k ≤ depth + 1) × (from ≤ n) × (ends-rise n from (drop k (take (suc depth) (words-of 256 ends))) ≡ true) × (layers-rise 0 (take (suc depth) (words-of 256 ends)) (rows 13 n s) ≡ layers-rise from (drop k (take (suc depth) (words-of 256 ends))) (drop from (rows 13 n s)))
+Inv-loop ends s depth n from₀ k₀ from k = (k ≤ depth + 1) × (from ≤ n) × (ends-rise n from (drop k (take (suc depth) (words-of ends-limit ends))) ≡ true) × (layers-rise 0 (take (suc depth) (words-of ends-limit ends)) (rows record-width n s) ≡ layers-rise from (drop k (take (suc depth) (words-of ends-limit ends))) (drop from (rows record-width n s)))
 
 abbrev μ-loop : tie.MeasureT-loop
 μ-loop ends s depth n from₀ k₀ from k = depth + 1 - k
@@ -24,26 +25,26 @@ abbrev μ-loop : tie.MeasureT-loop
 said : (c : tie.After-word Inv-loop μ-loop) →
     let l = c .before .before in
     let a = l .before .before .before .args in
-    Next (a .n) (l .loop .from) (c .word .result) (drop (l .loop .k + 1) (take (suc (a .depth)) (words-of 256 (now (a .ends)))))
+    Next (a .n) (l .loop .from) (c .word .result) (drop (l .loop .k + 1) (take (suc (a .depth)) (words-of ends-limit (now (a .ends)))))
 said c =
     let l = c .before .before in
     let a = l .before .before .before .args in
-    next-end (a .n) (l .loop .from) (l .loop .k) (a .depth) (c .word .result) (words-of 256 (now (a .ends))) (search needs) (omega (arith, length-words-of 256 (now (a .ends)))) (c .word .ensures 256 (search needs)) (l .loop .inv .2)
+    next-end (a .n) (l .loop .from) (l .loop .k) (a .depth) (c .word .result) (words-of ends-limit (now (a .ends))) (search needs) (omega (arith, length-words-of ends-limit (now (a .ends)))) (c .word .ensures ends-limit (search needs)) (l .loop .inv .2)
 
 -- the layer that was tested
 step : (c : tie.After-rises Inv-loop μ-loop) →
     let l = c .before .before .before in
     let a = l .before .before .before .args in
-    let es = take (suc (a .depth)) (words-of 256 (now (a .ends))) in
+    let es = take (suc (a .depth)) (words-of ends-limit (now (a .ends))) in
     let x = c .before .word .result in
-    layers-rise (l .loop .from) (drop (l .loop .k) es) (drop (l .loop .from) (rows 13 (a .n) (now (a .s)))) ≡ (c .rises .result && layers-rise x (drop (l .loop .k + 1) es) (drop x (rows 13 (a .n) (now (a .s)))))
+    layers-rise (l .loop .from) (drop (l .loop .k) es) (drop (l .loop .from) (rows record-width (a .n) (now (a .s)))) ≡ (c .rises .result && layers-rise x (drop (l .loop .k + 1) es) (drop x (rows record-width (a .n) (now (a .s)))))
 step c =
     let l = c .before .before .before in
     let a = l .before .before .before .args in
-    let es = take (suc (a .depth)) (words-of 256 (now (a .ends))) in
+    let es = take (suc (a .depth)) (words-of ends-limit (now (a .ends))) in
     let x = c .before .word .result in
-    layers-next (a .n) (l .loop .from) (l .loop .k) (a .depth) x (words-of 256 (now (a .ends))) (now (a .s)) (search needs) (omega (arith, length-words-of 256 (now (a .ends)))) (c .before .word .ensures 256 (search needs)) (said (c .before) .up) (said (c .before) .low)
-    ∙ ap (λ (t : Bool). t && layers-rise x (drop (l .loop .k + 1) es) (drop x (rows 13 (a .n) (now (a .s))))) (sym (c .rises .ensures))
+    layers-next (a .n) (l .loop .from) (l .loop .k) (a .depth) x (words-of ends-limit (now (a .ends))) (now (a .s)) (search needs) (omega (arith, length-words-of ends-limit (now (a .ends)))) (c .before .word .ensures ends-limit (search needs)) (said (c .before) .up) (said (c .before) .low)
+    ∙ ap (λ (t : Bool). t && layers-rise x (drop (l .loop .k + 1) es) (drop x (rows record-width (a .n) (now (a .s))))) (sym (c .rises .ensures))
 
 loop-holds : tie.Need-loop-holds Inv-loop μ-loop
 loop-holds c = (search needs, search needs, c .before .before .pre .1, refl)
@@ -83,7 +84,7 @@ returns-2 : tie.Need-returns-2 Inv-loop μ-loop
 returns-2 c =
     let l = c .before .before in
     let a = l .before .before .before .args in
-    c .rises2 .ensures ∙ sym (l .loop .inv .3 ∙ layers-end (a .n) (l .loop .from) (l .loop .k) (a .depth) (words-of 256 (now (a .ends))) (now (a .s)) (search needs) (search needs))
+    c .rises2 .ensures ∙ sym (l .loop .inv .3 ∙ layers-end (a .n) (l .loop .from) (l .loop .k) (a .depth) (words-of ends-limit (now (a .ends))) (now (a .s)) (search needs) (search needs))
 
 pub layers-rise-spec : {M : Type 1} → statement M
 layers-rise-spec =

@@ -7,6 +7,7 @@ use mathlib.Core.Bool.{Bool, _&&_}
 use lib.ListN.{drop}
 use denote.Ref.{now}
 use borrow.Author.Tests.{not-true, not-false}
+use Rattle.layout.specs.Layout.{record-width}
 use Rattle.checking.specs.Checks.{all-of, record-right, rows}
 use Rattle.checking.proofs.Steps.{row-next}
 use Rattle.checking.proofs.Rows.{all-end, length-rows}
@@ -14,7 +15,7 @@ use Rattle.checking.proofs.records_all.Statement.{statement}
 use Rattle.checking.proofs.records_all.Tie as tie
 
 abbrev Inv-loop : tie.InvT-loop
-Inv-loop s n number i₀ i = (i ≤ n) × (all-of (record-right number) (rows 13 n s) ≡ all-of (record-right number) (drop i (rows 13 n s)))
+Inv-loop s n number i₀ i = (i ≤ n) × (all-of (record-right number) (rows record-width n s) ≡ all-of (record-right number) (drop i (rows record-width n s)))
 
 abbrev μ-loop : tie.MeasureT-loop
 μ-loop s n number i₀ i = n - i
@@ -23,12 +24,12 @@ abbrev μ-loop : tie.MeasureT-loop
 said : (c : tie.After-record-right Inv-loop μ-loop) →
     let l = c .before .before in
     let a = l .before .before .args in
-    let es = rows 13 (a .n) (now (a .s)) in
+    let es = rows record-width (a .n) (now (a .s)) in
     all-of (record-right (a .number)) (drop (l .loop .i) es) ≡ (c .record-right .result && all-of (record-right (a .number)) (drop (l .loop .i + 1) es))
 said c =
     let l = c .before .before in
     let a = l .before .before .args in
-    row-next 13 (a .n) (l .loop .i) (record-right (a .number)) (now (a .s)) (search needs) ∙ ap (λ (t : Bool). t && all-of (record-right (a .number)) (drop (l .loop .i + 1) (rows 13 (a .n) (now (a .s))))) (sym (c .record-right .ensures))
+    row-next record-width (a .n) (l .loop .i) (record-right (a .number)) (now (a .s)) (search needs) ∙ ap (λ (t : Bool). t && all-of (record-right (a .number)) (drop (l .loop .i + 1) (rows record-width (a .n) (now (a .s))))) (sym (c .record-right .ensures))
 
 loop-holds : tie.Need-loop-holds Inv-loop μ-loop
 loop-holds c = (search needs, refl)
@@ -59,7 +60,7 @@ returns-2 : tie.Need-returns-2 Inv-loop μ-loop
 returns-2 c =
     let l = c .before in
     let a = l .before .before .args in
-    sym (l .loop .inv .1 ∙ all-end (record-right (a .number)) (rows 13 (a .n) (now (a .s))) (l .loop .i) (omega (arith, length-rows 13 (a .n) (now (a .s)))))
+    sym (l .loop .inv .1 ∙ all-end (record-right (a .number)) (rows record-width (a .n) (now (a .s))) (l .loop .i) (omega (arith, length-rows record-width (a .n) (now (a .s)))))
 
 pub records-all-spec : {M : Type 1} → statement M
 records-all-spec =

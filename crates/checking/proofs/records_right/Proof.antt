@@ -6,6 +6,7 @@ use mathlib.Core.List.{List}
 use lib.ListN.{take}
 use denote.Ref.{now}
 use borrow.Author.Tests.{not-true, not-false}
+use Rattle.layout.specs.Layout.{ends-limit, ends-offset}
 use Rattle.image.specs.Image.{words-of}
 use Rattle.checking.proofs.Parts.{and-no, and-yes, rest, records-both}
 use Rattle.checking.specs.Checks.{ends-rise}
@@ -42,7 +43,7 @@ part-layers-rise-end-2 c = search needs
 layers-rise-requires : tie.Need-layers-rise-requires
 layers-rise-requires c κs =
     let a = c .before .before .before .before .before .args in
-    ((search needs, search needs, search needs), ap (λ (l : List ℕ). ends-rise (a .n) 0 (take (suc (a .depth)) (words-of 256 l))) (rest 192 (now (a .s))) ∙ c .before .before .before .before .before .pre .1)
+    ((search needs, search needs, search needs), ap (λ (l : List ℕ). ends-rise (a .n) 0 (take (suc (a .depth)) (words-of ends-limit l))) (rest ends-offset (now (a .s))) ∙ c .before .before .before .before .before .pre .1)
 
 returns-2 : tie.Need-returns-2
 returns-2 c =

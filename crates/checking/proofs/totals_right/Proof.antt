@@ -3,6 +3,7 @@ use borrow.Author.Needs.{needs}
 use mathlib.Core.Path.{_∙_}
 use denote.Ref.{now}
 use lib.Dec.{lit<}
+use Rattle.layout.specs.Layout.{header-width}
 use Rattle.image.specs.Image.{words-of}
 use Rattle.checking.proofs.Parts.{totals-same}
 use Rattle.checking.proofs.totals_right.Statement.{statement}
@@ -39,7 +40,7 @@ totals-test-requires : tie.Need-totals-test-requires
 totals-test-requires c κs = search needs
 
 returns : tie.Need-returns
-returns c = c .totals-test .ensures ∙ totals-same (c .before .before .before .before .before .before .before .before .before .before .before .args .w) (c .before .before .before .before .before .before .before .before .before .before .before .args .n) (words-of 24 (now (c .before .before .before .before .before .before .before .before .before .before .before .args .s))) _ _ _ _ _ _ _ _ _ (c .before .before .before .before .before .before .before .before .before .word .ensures 24 (lit< tt)) (c .before .before .before .before .before .before .before .before .word2 .ensures 24 (lit< tt)) (c .before .before .before .before .before .before .before .word3 .ensures 24 (lit< tt)) (c .before .before .before .before .before .before .word4 .ensures 24 (lit< tt)) (c .before .before .before .before .before .word5 .ensures 24 (lit< tt)) (c .before .before .before .before .word6 .ensures 24 (lit< tt)) (c .before .before .before .word7 .ensures 24 (lit< tt)) (c .before .before .word8 .ensures 24 (lit< tt)) (c .before .word9 .ensures 24 (lit< tt))
+returns c = c .totals-test .ensures ∙ totals-same (c .before .before .before .before .before .before .before .before .before .before .before .args .w) (c .before .before .before .before .before .before .before .before .before .before .before .args .n) (words-of header-width (now (c .before .before .before .before .before .before .before .before .before .before .before .args .s))) _ _ _ _ _ _ _ _ _ (c .before .before .before .before .before .before .before .before .before .word .ensures header-width (lit< tt)) (c .before .before .before .before .before .before .before .before .word2 .ensures header-width (lit< tt)) (c .before .before .before .before .before .before .before .word3 .ensures header-width (lit< tt)) (c .before .before .before .before .before .before .word4 .ensures header-width (lit< tt)) (c .before .before .before .before .before .word5 .ensures header-width (lit< tt)) (c .before .before .before .before .word6 .ensures header-width (lit< tt)) (c .before .before .before .word7 .ensures header-width (lit< tt)) (c .before .before .word8 .ensures header-width (lit< tt)) (c .before .word9 .ensures header-width (lit< tt))
 
 pub totals-right-spec : {M : Type 1} → statement M
 totals-right-spec =

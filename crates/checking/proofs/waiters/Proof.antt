@@ -6,13 +6,14 @@ use Prim.Native.Nat.{_+_, _-_, _*_, _≤_}
 use lib.ListN.{drop}
 use denote.Ref.{now}
 use lib.Dec.{lit<}
+use Rattle.layout.specs.Layout.{awaiting-width}
 use Rattle.checking.specs.Checks.{waiters-sum, rows}
 use Rattle.checking.proofs.Steps.{waiters-next, waiters-end, waiters-few}
 use Rattle.checking.proofs.waiters.Statement.{statement}
 use Rattle.checking.proofs.waiters.Tie as tie
 
 abbrev Inv-loop : tie.InvT-loop
-Inv-loop s n w₀ i₀ w i = (i ≤ n) × (w ≤ 4294967295 * i) × (waiters-sum (rows 9 n s) ≡ w + waiters-sum (drop i (rows 9 n s)))
+Inv-loop s n w₀ i₀ w i = (i ≤ n) × (w ≤ 4294967295 * i) × (waiters-sum (rows awaiting-width n s) ≡ w + waiters-sum (drop i (rows awaiting-width n s)))
 
 abbrev μ-loop : tie.MeasureT-loop
 μ-loop s n w₀ i₀ w i = n - i
@@ -22,7 +23,7 @@ few : (c : tie.After-word Inv-loop μ-loop) → c .word .result ≤ 4294967295
 few c =
     let l = c .before .before in
     let a = l .before .before .args in
-    waiters-few (a .n) (l .loop .i) (c .word .result) (now (a .s)) (search needs) (c .word .ensures 9 (lit< tt)) (l .before .before .pre .2)
+    waiters-few (a .n) (l .loop .i) (c .word .result) (now (a .s)) (search needs) (c .word .ensures awaiting-width (lit< tt)) (l .before .before .pre .2)
 
 loop-holds : tie.Need-loop-holds Inv-loop μ-loop
 loop-holds c = (search needs, search needs, omega arith)
@@ -49,7 +50,7 @@ loop-again : tie.Need-loop-again Inv-loop μ-loop
 loop-again c =
     let l = c .before .before in
     let a = l .before .before .args in
-    (search needs, omega (arith, few c, l .loop .inv .1), omega (arith, l .loop .inv .2, waiters-next (a .n) (l .loop .i) (c .word .result) (now (a .s)) (search needs) (c .word .ensures 9 (lit< tt))))
+    (search needs, omega (arith, few c, l .loop .inv .1), omega (arith, l .loop .inv .2, waiters-next (a .n) (l .loop .i) (c .word .result) (now (a .s)) (search needs) (c .word .ensures awaiting-width (lit< tt))))
 
 returns : tie.Need-returns Inv-loop μ-loop
 returns c =

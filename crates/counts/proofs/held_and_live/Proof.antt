@@ -7,7 +7,7 @@ use native.Mathlib.Omega.{arith}
 use lib.ListN.{length}
 use denote.Ref.{now}
 use Rattle.order.specs.Index.{numbers, Ordered, up-from}
-use Rattle.rules.proofs.PartLaws.{front-part, front-fits}
+use Rattle.order.proofs.PartLaws.{front-part, front-fits}
 use Rattle.counts.proofs.held_and_live.Statement.{statement}
 use Rattle.counts.proofs.held_and_live.Tie as tie
 

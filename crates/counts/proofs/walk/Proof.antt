@@ -12,9 +12,9 @@ use Rattle.image.specs.Area.{records-of}
 use Rattle.order.specs.Index.{numbers, Names, up-from, no-record}
 use Rattle.order.proofs.IndexLaws.{all-at, names-up}
 use Rattle.order.proofs.MergeLaws.{all-ordered}
-use Rattle.rules.specs.Rules.{use-of, has-value}
-use Rattle.rules.specs.Walk.{bit-of}
-use Rattle.rules.proofs.WalkLaws.{walk, turn-last, turn-more, bit-small, walk-end}
+use Rattle.order.specs.Walk.{use-of, has-value}
+use Rattle.order.specs.Walk.{bit-of}
+use Rattle.order.proofs.WalkLaws.{walk, turn-last, turn-more, bit-small, walk-end}
 use Rattle.counts.proofs.CountLaws.{Seen, unseen, sees, served, held-say, live-say}
 use Rattle.counts.proofs.walk.Statement.{statement}
 use Rattle.counts.proofs.walk.Tie as tie

@@ -3,7 +3,7 @@ use mathlib.Core.Path.{sym, _∙_}
 use denote.Ref.{now}
 use borrow.Author.Tests.{not-true, not-false}
 use borrow.Author.Needs.{needs}
-use Rattle.final_writes.proofs.Entries.{slots-differ, changes-differ, reads-decide}
+use Rattle.final_writes.proofs.Agreeing.{slots-differ, changes-differ, reads-decide}
 use Rattle.final_writes.proofs.counts_agree.Statement.{statement}
 use Rattle.final_writes.proofs.counts_agree.Tie as tie
 

@@ -8,11 +8,13 @@ use lib.ListN.{length, drop}
 use denote.Ref.{now}
 use borrow.Author.Needs.{needs}
 use borrow.Author.Tests.{ne-eqb}
-use Rattle.final_writes.specs.FinalWrites.{sum}
 use Rattle.model.specs.Entries.{number-at}
-use Rattle.final_writes.specs.Lent.{all-entries}
 use Rattle.words.proofs.Places.{entry-fits}
-use Rattle.final_writes.proofs.Entries.{sum-at, none-left, eqb-both, word-at}
+use Rattle.entries.specs.Lists.{all-entries}
+use Rattle.entries.proofs.Lists.{none-left}
+use Rattle.entries.proofs.Numbers.{number-in}
+use Rattle.bal_entries.specs.Listed.{sum}
+use Rattle.final_writes.proofs.Agreeing.{sum-at, eqb-both}
 use Rattle.final_writes.proofs.counts_sum.Statement.{statement}
 use Rattle.final_writes.proofs.counts_sum.Tie as tie
 
@@ -38,7 +40,7 @@ said : (c : tie.After-read-u64 Inv-loop μ-loop) → let l = c .before .before .
 said c =
     let l = c .before .before .loop in
     let a = c .before .before .before .before .args in
-    omega (arith, sum-at (number-at (a .at) 8) (a .width) (l .i) (length (now (a .list)) / a .width) (now (a .list)) (omega arith), word-at (a .at) (l .i * a .width) (now (a .list)), c .read-u64 .ensures)
+    omega (arith, sum-at (number-at (a .at) 8) (a .width) (l .i) (length (now (a .list)) / a .width) (now (a .list)) (omega arith), number-in (a .at) (l .i * a .width) 8 (now (a .list)), c .read-u64 .ensures)
 
 ended : (rd : List ℕ → ℕ) (w i : ℕ) (l : List ℕ) → length l / w ≤ i → sum (drop i (all-entries rd w l)) ≡ 0
 unfolding sum

@@ -1,6 +1,6 @@
 -- `final_writes::final_writes` meets its contract. Assumes nothing.
 use mathlib.Core.Path.{_≡_, sym, ap₂, subst, _∙_}
-use mathlib.Core.Bool.{false}
+use mathlib.Core.Bool.{true, false}
 use mathlib.Core.List.{List}
 use Prim.Native.Nat.{ℕ, _+_, _<_}
 use native.Mathlib.Omega.{arith}
@@ -11,13 +11,17 @@ use borrow.Author.Needs.{needs}
 use Rattle.final_writes.specs.declared.SeedCounts.{SeedCounts}
 use Rattle.final_writes.specs.declared.FinalWritesAnswer.the-variants.{Seeded}
 use Rattle.final_writes.specs.FinalWrites.{counts-differ}
-use Rattle.final_writes.specs.Lent.{plan-of, lent-lists, lent-final-writes, Answers}
-use Rattle.final_writes.specs.Walking.{counts-of}
+use Rattle.bal_plan.specs.Plan.{plan-of}
+use Rattle.final_writes.specs.Lent.{lent-lists, lent-final-writes, Answers}
+use Rattle.final_writes.specs.Counts.{counts-of}
 use Rattle.final_writes.proofs.Outcomes.{start-fits, refused-10, refused-9-writes, refused-9-reads, accepted}
 use Rattle.final_writes.proofs.final_writes.Statement.{statement}
 use Rattle.final_writes.proofs.final_writes.Tie as tie
 
--- The counts don't differ.
+-- The counts differ, and don't.
+differ : (c : tie.Then1) → let a = c .before .before .before .before .before .before .before .before .before .args in counts-differ (lent-lists (now (a .accounts)) (now (a .slots)) (now (a .changes)) (now (a .reads))) ≡ true
+differ c = not-false _ (sym (c .before .counts-agree .ensures) ∙ not-true _ (c .if1 .taken))
+
 alike : (c : tie.Else1) → let a = c .before .before .before .before .before .before .before .before .before .args in counts-differ (lent-lists (now (a .accounts)) (now (a .slots)) (now (a .changes)) (now (a .reads))) ≡ false
 alike c = not-true _ (sym (c .before .counts-agree .ensures) ∙ not-false _ (c .if1 .left))
 
@@ -37,7 +41,7 @@ counts-agree-requires c κs = search needs
 returns : tie.Need-returns
 returns c =
     let a = c .before .before .before .before .before .before .before .before .before .args in
-    refused-10 (now (a .accounts)) (now (a .slots)) (now (a .changes)) (now (a .reads)) (now (a .plan-addresses)) (now (a .writes-out)) (now (a .reads-out)) (a .max-writes) (a .max-reads) (not-false _ (sym (c .before .counts-agree .ensures) ∙ not-true _ (c .if1 .taken)))
+    refused-10 (now (a .accounts)) (now (a .slots)) (now (a .changes)) (now (a .reads)) (now (a .plan-addresses)) (now (a .writes-out)) (now (a .reads-out)) (a .max-writes) (a .max-reads) (differ c)
 
 returns-2 : tie.Need-returns-2
 returns-2 c =

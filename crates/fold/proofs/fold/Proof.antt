@@ -6,8 +6,9 @@ use Prim.Native.Nat.{ℕ, _*_, _≤_}
 use native.Mathlib.Omega.{arith}
 use lib.ListN.{length}
 use denote.Ref.{now}
+use Rattle.layout.specs.Layout.{record-size}
 use Rattle.order.specs.Index.{numbers, Ordered, up-from}
-use Rattle.rules.proofs.PartLaws.{front-part, front-fits}
+use Rattle.order.proofs.PartLaws.{front-part, front-fits}
 use Rattle.fold.proofs.fold.Statement.{statement}
 use Rattle.fold.proofs.fold.Tie as tie
 
@@ -53,7 +54,7 @@ walk-requires c κs =
     let la : length (o .order .last .1 .1 .1 .0) ≡ n = omega arith in
     let e = front-part n (o .order .last .1 .1 .1 .0) _ la in (
       st .pre .0,
-      subst (λ (k : ℕ). k * 104 ≤ length (now (st .args .out))) (sym (ap length e ∙ la)) (st .pre .1),
+      subst (λ (k : ℕ). k * record-size ≤ length (now (st .args .out))) (sym (ap length e ∙ la)) (st .pre .1),
       subst (λ (l : List ℕ). Ordered (numbers n (now (st .args .s))) (up-from 0 n) l) (sym e) (o .order .ensures),
     )
 

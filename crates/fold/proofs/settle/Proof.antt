@@ -3,6 +3,7 @@ use borrow.Author.Needs.{needs}
 use Prim.Native.Nat.{_*_}
 use lib.ListN.{drop, getD}
 use denote.Ref.{now}
+use Rattle.layout.specs.Layout.{record-size, record-width}
 use Rattle.image.specs.Image.{words-of}
 use Rattle.image.specs.Area.{records-of}
 use Rattle.order.specs.Index.{no-record}
@@ -26,7 +27,7 @@ returns c =
     let th = w .before .before in
     let st = th .before .before .before in
     let a = st .args in
-    settled-yes (a .keep) (a .used) (a .c) (getD (records-of (a .n) (now (a .s))) (a .i) no-record) (renewed-words (a .used) (words-of 13 (drop (a .i * 104) (now (a .s))))) (now (a .out)) (th .if1 .taken)
+    settled-yes (a .keep) (a .used) (a .c) (getD (records-of (a .n) (now (a .s))) (a .i) no-record) (renewed-words (a .used) (words-of record-width (drop (a .i * record-size) (now (a .s))))) (now (a .out)) (th .if1 .taken)
     (renewed-is (a .used) (a .n) (a .i) (now (a .s)) (search needs) (st .pre .1 (th .if1 .taken))) (w .write-record .ensures)
 
 returns-2 : tie.Need-returns-2

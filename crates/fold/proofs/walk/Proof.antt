@@ -11,14 +11,15 @@ use lib.ListN.{length, getD, drop}
 use denote.Ref.{now}
 use mir.Syntax.{w64}
 use mir.Val.{Fits}
+use Rattle.layout.specs.Layout.{record-size}
 use Rattle.model.specs.Layers.{Content, Layer}
 use Rattle.model.proofs.SlotLaws.{and-left, not-both}
 use Rattle.image.specs.Area.{records-of}
 use Rattle.order.specs.Index.{numbers, Names, up-from, no-record}
 use Rattle.order.proofs.IndexLaws.{all-at, names-up}
 use Rattle.order.proofs.MergeLaws.{all-ordered}
-use Rattle.rules.specs.Rules.{use-of, has-value}
-use Rattle.rules.proofs.WalkLaws.{turn-last, turn-more, bit-small, walk-end}
+use Rattle.order.specs.Walk.{use-of, has-value}
+use Rattle.order.proofs.WalkLaws.{turn-last, turn-more, bit-small, walk-end}
 use Rattle.fold.specs.Stored.{kept, stored, Stored}
 use Rattle.fold.proofs.EmitLaws.{emit-end}
 use Rattle.fold.proofs.BestLaws.{Best, begin, betters, gives, drops}
@@ -113,7 +114,7 @@ met c =
     let m = length (to-give least (a .n) s (begin rs) ix) in
     let t = to-drop least (a .n) s (begin rs) ix in
     let k : ch .choose .result < a .n = chosen ch in
-    let room : (l .loop .left + 1) * 104 ≤ length (l .loop .out) = omega (arith, l .before .before .before .before .before .pre .1, l .loop .inv .4, l .loop .inv .1, h) in
+    let room : (l .loop .left + 1) * record-size ≤ length (l .loop .out) = omega (arith, l .before .before .before .before .before .pre .1, l .loop .inv .4, l .loop .inv .1, h) in
     ⊎-elim
     (λ u. let o = u .3 .last .1 .1 .1 .1 .1 .0 in
     let eb : b2 ≡ begin rs = λ i. record { any = u .10 i; low = u .11 i; best = getD rs (u .12 i) no-record } in

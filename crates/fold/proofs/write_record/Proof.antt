@@ -6,6 +6,7 @@ use Prim.Native.Nat.{ℕ, _*_, _-_, _≤_}
 use native.Mathlib.Omega.{arith}
 use lib.ListN.{length, drop, take}
 use denote.Ref.{now}
+use Rattle.layout.specs.Layout.{record-size, record-width}
 use Rattle.words.specs.Parts.{placed}
 use Rattle.image.specs.Image.{words-of, bytes-of}
 use Rattle.fold.specs.Stored.{renewed-words}
@@ -15,15 +16,15 @@ use Rattle.fold.proofs.write_record.Tie as tie
 
 abbrev Inv-loop : tie.InvT-loop
 Inv-loop s i used out₀ c k₀ out k =
-    (k ≤ 13) × (length out ≡ length out₀) × (out ≡ placed (c * 104) (bytes-of (take k (renewed-words used (words-of 13 (drop (i * 104) s))))) out₀)
+    (k ≤ record-width) × (length out ≡ length out₀) × (out ≡ placed (c * record-size) (bytes-of (take k (renewed-words used (words-of record-width (drop (i * record-size) s))))) out₀)
 
 abbrev μ-loop : tie.MeasureT-loop
-μ-loop s i used out₀ c k₀ out k = 13 - k
+μ-loop s i used out₀ c k₀ out k = record-width - k
 
 loop-holds : tie.Need-loop-holds Inv-loop μ-loop
 loop-holds c =
     let a = c .before .before .args in
-    (search needs, refl, placed-none (a .c * 104) (renewed-words (a .used) (words-of 13 (drop (a .i * 104) (now (a .s))))) (now (a .out)))
+    (search needs, refl, placed-none (a .c * record-size) (renewed-words (a .used) (words-of record-width (drop (a .i * record-size) (now (a .s))))) (now (a .out)))
 
 word-requires : tie.Need-word-requires Inv-loop μ-loop
 word-requires c κs = search needs
@@ -52,11 +53,11 @@ loop-again c =
     let wd = wu .before .before in
     let l = wd .before .before in
     let a = l .before .before .before .args in
-    let w : List ℕ = renewed-words (a .used) (words-of 13 (drop (a .i * 104) (now (a .s)))) in
-    let n : length w ≡ 13 = length-renewed (a .used) (drop (a .i * 104) (now (a .s))) in (
+    let w : List ℕ = renewed-words (a .used) (words-of record-width (drop (a .i * record-size) (now (a .s)))) in
+    let n : length w ≡ record-width = length-renewed (a .used) (drop (a .i * record-size) (now (a .s))) in (
       search needs,
       search needs,
-      placed-word (a .c * 104) (l .loop .k) (wd .word .result) w (now (a .out)) (omega arith) (omega arith) (wd .word .ensures) (l .loop .inv .2) (wu .write-u64 .ensures),
+      placed-word (a .c * record-size) (l .loop .k) (wd .word .result) w (now (a .out)) (omega arith) (omega arith) (wd .word .ensures) (l .loop .inv .2) (wu .write-u64 .ensures),
     )
 
 same-length : tie.Need-same-length Inv-loop μ-loop
@@ -66,8 +67,8 @@ returns : tie.Need-returns Inv-loop μ-loop
 returns c =
     let l = c .before in
     let a = l .before .before .before .args in
-    let w : List ℕ = renewed-words (a .used) (words-of 13 (drop (a .i * 104) (now (a .s)))) in
-    placed-all (a .c * 104) (l .loop .k) w (now (a .out)) (omega (arith, length-renewed (a .used) (drop (a .i * 104) (now (a .s))))) (l .loop .inv .2)
+    let w : List ℕ = renewed-words (a .used) (words-of record-width (drop (a .i * record-size) (now (a .s)))) in
+    placed-all (a .c * record-size) (l .loop .k) w (now (a .out)) (omega (arith, length-renewed (a .used) (drop (a .i * record-size) (now (a .s))))) (l .loop .inv .2)
 
 pub write-record-spec : {M : Type 1} → statement M
 write-record-spec =

@@ -9,7 +9,7 @@ use Rattle.model.specs.declared.read_hub.CarryOutcome.{CarryOutcome}
 use Rattle.model.specs.declared.read_hub.CarryOutcome.the-variants.{AlreadyCurrent, Carried, Cold}
 use Rattle.call_list.specs.Listing.{ascii, line, decimals}
 use Rattle.listing.specs.Lines.{counts-line, cold-counts}
-use Rattle.listing.proofs.Placing.{written-as}
+use Rattle.digits.proofs.Writing.{written-as}
 use Rattle.listing.proofs.advance_line.Statement.{statement}
 use Rattle.listing.proofs.advance_line.Tie as tie
 

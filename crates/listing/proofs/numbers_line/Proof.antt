@@ -7,8 +7,8 @@ use native.Mathlib.Omega.{arith}
 use lib.ListN.{length, drop}
 use denote.Ref.{now}
 use Rattle.words.specs.Parts.{placed}
-use Rattle.listing.specs.Lines.{Written}
-use Rattle.listing.proofs.Placing.{written-left, written-then, written-as}
+use Rattle.digits.specs.Written.{Written}
+use Rattle.digits.proofs.Writing.{written-left, written-then, written-as}
 use Rattle.listing.proofs.Fields.{fields, line-fields, line-fields-length, fields-turn, fields-turn-length, fields-next, fields-done}
 use Rattle.listing.proofs.numbers_line.Statement.{statement}
 use Rattle.listing.proofs.numbers_line.Tie as tie

@@ -6,8 +6,8 @@ use native.Mathlib.Omega.{arith}
 use lib.ListN.{length, length-append}
 use denote.Ref.{now}
 use Rattle.call_list.specs.Listing.{ascii, line, u256-hex}
-use Rattle.listing.proofs.Placing.{written-then}
-use Rattle.listing.proofs.Digits.{u256-hex-length}
+use Rattle.digits.proofs.Writing.{written-then}
+use Rattle.digits.proofs.Digits.{u256-hex-length}
 use Rattle.listing.proofs.value_line.Statement.{statement}
 use Rattle.listing.proofs.value_line.Tie as tie
 

@@ -5,7 +5,7 @@ use mathlib.Core.List.{[], _∷_}
 use lib.ListN.{length-append}
 use denote.Ref.{now}
 use Rattle.call_list.specs.Listing.{line}
-use Rattle.listing.proofs.Placing.{written-then}
+use Rattle.digits.proofs.Writing.{written-then}
 use Rattle.listing.proofs.word_line.Statement.{statement}
 use Rattle.listing.proofs.word_line.Tie as tie
 

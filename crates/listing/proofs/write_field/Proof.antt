@@ -1,7 +1,7 @@
 -- `listing::write_field` meets its contract. Assumes nothing.
 use borrow.Author.Needs.{needs}
 use native.Mathlib.Omega.{arith}
-use Rattle.listing.proofs.Placing.{written-then}
+use Rattle.digits.proofs.Writing.{written-then}
 use Rattle.listing.proofs.write_field.Statement.{statement}
 use Rattle.listing.proofs.write_field.Tie as tie
 

@@ -1,8 +1,8 @@
--- `public_calls::advance` meets its contract: what `store_advance::advance` ensures, and the ranges of the arguments. Assumes nothing.
+-- `public_calls::advance` meets its contract: what `store::advance` ensures, and the ranges of the arguments. Assumes nothing.
 use denote.Ref.{now}
 use borrow.Author.Needs.{needs}
-use Rattle.known.proofs.Segments.{known-bytes}
-use Rattle.known_advance.proofs.Ranges.{anchor-range}
+use Rattle.header.proofs.Segments.{known-bytes}
+use Rattle.unchecked_advance.proofs.Ranges.{anchor-range}
 use Rattle.public_calls.proofs.advance.Statement.{statement}
 use Rattle.public_calls.proofs.advance.Tie as tie
 

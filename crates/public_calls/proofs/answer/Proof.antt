@@ -1,7 +1,7 @@
--- `public_calls::answer` meets its contract: what `store_reads::answer` ensures, and the ranges of the arguments. Assumes nothing.
+-- `public_calls::answer` meets its contract: what `store::answer` ensures, and the ranges of the arguments. Assumes nothing.
 use borrow.Author.Needs.{needs}
 use denote.Ref.{now}
-use Rattle.known.proofs.Segments.{known-bytes}
+use Rattle.header.proofs.Segments.{known-bytes}
 use Rattle.public_calls.proofs.answer.Statement.{statement}
 use Rattle.public_calls.proofs.answer.Tie as tie
 

@@ -1,6 +1,6 @@
 -- `public_calls::install` meets its contract: what `store::install` ensures, and the ranges of the arguments. Assumes nothing.
 use borrow.Author.Needs.{needs}
-use Rattle.known_advance.proofs.Ranges.{anchor-range}
+use Rattle.unchecked_advance.proofs.Ranges.{anchor-range}
 use Rattle.public_calls.proofs.install.Statement.{statement}
 use Rattle.public_calls.proofs.install.Tie as tie
 

@@ -1,6 +1,6 @@
 -- `public_calls::put` meets its contract: what `store::put` ensures, and the ranges of the arguments. Assumes nothing.
 use borrow.Author.Needs.{needs}
-use Rattle.known_advance.proofs.Ranges.{u256-range}
+use Rattle.unchecked_advance.proofs.Ranges.{u256-range}
 use Rattle.public_calls.proofs.Ranges.{slot-range}
 use Rattle.public_calls.proofs.put.Statement.{statement}
 use Rattle.public_calls.proofs.put.Tie as tie

@@ -1,4 +1,4 @@
--- `public_calls::read` meets its contract: what `store_reads::read` ensures, and the ranges of the arguments. Assumes nothing.
+-- `public_calls::read` meets its contract: what `store::read` ensures, and the ranges of the arguments. Assumes nothing.
 use borrow.Author.Needs.{needs}
 use Rattle.public_calls.proofs.Ranges.{slot-range}
 use Rattle.public_calls.proofs.read.Statement.{statement}

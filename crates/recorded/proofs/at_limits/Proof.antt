@@ -12,6 +12,7 @@ use Rattle.model.specs.Advance
 use Rattle.model.specs.Reads
 use Rattle.model.specs.Store
 use Rattle.model.specs.Refusals
+use Rattle.call_list.specs.Meaning.{default-limits}
 use Rattle.call_list.specs.CallList.{call-list}
 use Rattle.call_list.specs.Calls.{listing, calls-output}
 use Rattle.recorded.specs.Limits.{queue, RefusedAtLimits, OutputAfter, CallsTakes, AtLimits}
@@ -42,8 +43,8 @@ calls-takes : CallsTakes
 unfolding calls-output
 calls-takes =
     record {
-      whole-list = λ input h. ap (λ (l : List ℕ). listing none (call-list l)) (take-all 65536 input h);
-      rest-ignored = λ input rest h. ap (λ (l : List ℕ). listing none (call-list l)) (take-append-le 65536 input rest h);
+      whole-list = λ input h. ap (λ (l : List ℕ). listing default-limits none (call-list l)) (take-all 65536 input h);
+      rest-ignored = λ input rest h. ap (λ (l : List ℕ). listing default-limits none (call-list l)) (take-append-le 65536 input rest h);
       work-lent = refl;
       entries-lent = refl;
     }

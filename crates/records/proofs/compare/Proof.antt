@@ -5,6 +5,7 @@ use native.Mathlib.Omega.{arith}
 use denote.Ref.{now}
 use Prim.Native.Nat.{ℕ}
 use mathlib.Core.List.{List}
+use Rattle.layout.specs.Layout.{slot-width}
 use Rattle.model.specs.declared.delta_snapshot.Slot.{Slot}
 use lib.ListN.{drop}
 use Rattle.model.specs.Slots.{slot-words}
@@ -16,7 +17,7 @@ use Rattle.records.proofs.compare.Tie as tie
 
 -- The words after the first k decide, as the first k are equal.
 abbrev Decides : ℕ → ℕ → List ℕ → Slot → Type 0
-Decides k at s t = words-order (drop k (words-from at s)) (drop k (slot-words t)) ≡ slot-order (read-slot (words-of 7 (drop at s))) t
+Decides k at s t = words-order (drop k (words-from at s)) (drop k (slot-words t)) ≡ slot-order (read-slot (words-of slot-width (drop at s))) t
 
 past1 : (c : tie.Else1) → let a = c .before .before .before .before .args in Decides 1 (a .at) (now (a .s)) (a .slot)
 past1 c =

@@ -1,11 +1,12 @@
 -- `records::insert_at` meets its contract. Assumes nothing.
 use borrow.Author.Needs.{needs}
 use mathlib.Core.Path.{_≡_, refl, ap, _∙_}
-use mathlib.Core.List.{_∷_, _++_}
+use mathlib.Core.List.{[], _∷_, _++_}
 use Prim.Native.Nat.{ℕ, _+_, _*_, _-_}
 use native.Mathlib.Omega.{arith}
 use lib.ListN.{take, drop}
 use denote.Ref.{now}
+use Rattle.layout.specs.Layout.{record-size}
 use Rattle.model.specs.Slots.{slot-words, u256-words}
 use Rattle.words.specs.Parts.{part}
 use Rattle.image.specs.Image.{bytes-of}
@@ -50,11 +51,11 @@ returns c =
     let mv = ws .before .before .before .before in
     let a = mv .before .before .before .args in
     let s = now (a .s) in
-    let at = a .i * 104 in
-    let len = (a .n - a .i) * 104 in
+    let at = a .i * record-size in
+    let len = (a .n - a .i) * record-size in
     let xs = slot-words (a .slot) in
-    let ys = a .used ∷ a .flag ∷ u256-words (a .value) in
-    let e : at + 104 + len ≡ (a .n + 1) * 104 = omega arith in
+    let ys = a .used ∷ a .flag ∷ (u256-words (a .value) ++ (0 ∷ [])) in
+    let e : at + record-size + len ≡ (a .n + 1) * record-size = omega arith in
     record-put at len xs ys s refl refl (omega arith) (mv .move-up .ensures) (ws .write-slot .ensures) (wc .write-content .ensures)
     ∙ ap (λ (k : ℕ). take at s ++ bytes-of (xs ++ ys) ++ part at len s ++ drop k s) e
 

@@ -4,6 +4,7 @@ use mathlib.Core.Path.{sym, _∙_}
 use Prim.Native.Nat.{_*_}
 use native.Mathlib.Omega.{arith}
 use denote.Ref.{now}
+use Rattle.layout.specs.Layout.{last-use-index, record-size, record-width}
 use Rattle.records.proofs.Slots.{word-at}
 use Rattle.records.proofs.last_use.Statement.{statement}
 use Rattle.records.proofs.last_use.Tie as tie
@@ -20,7 +21,7 @@ read-u64-requires c κs = search needs
 returns : tie.Need-returns
 returns c =
     let a = c .before .before .args in
-    c .read-u64 .ensures ∙ sym (word-at 13 7 (a .i * 104) (now (a .s)) (omega arith))
+    c .read-u64 .ensures ∙ sym (word-at record-width last-use-index (a .i * record-size) (now (a .s)) (omega arith))
 
 pub last-use-spec : {M : Type 1} → statement M
 last-use-spec = tie.close (tie.spec mul-read-u64 add-read-u64 read-u64-requires returns)

@@ -5,6 +5,7 @@ use Prim.Native.Nat.{_*_, _≤_, _<_}
 use native.Mathlib.Omega.{arith}
 use lib.ListN.{length}
 use denote.Ref.{now}
+use Rattle.layout.specs.Layout.{record-size}
 use Rattle.model.specs.Layers.{valued}
 use Rattle.records.specs.declared.Found.the-variants.{At, Absent}
 use Rattle.records.proofs.Settled.{at-lt, at-room, absent-at-most, absent-room, count-at, count-absent, set-absent, settle-found}
@@ -12,7 +13,7 @@ use Rattle.records.proofs.settle.Statement.{statement}
 use Rattle.records.proofs.settle.Tie as tie
 
 -- The numbers of each arm.
-at-i : (c : tie.After-write-content-arg) → let st = c .before .before .before .before .before in let i = c .before .before .place .given .0 .0 in (i < st .args .n) × (st .args .n * 104 ≤ length (now (st .args .s)))
+at-i : (c : tie.After-write-content-arg) → let st = c .before .before .before .before .before in let i = c .before .before .place .given .0 .0 in (i < st .args .n) × (st .args .n * record-size ≤ length (now (st .args .s)))
 at-i c =
     let st = c .before .before .before .before .before in
     let i = c .before .before .place .given .0 .0 in

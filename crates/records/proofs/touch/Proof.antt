@@ -5,6 +5,7 @@ use Prim.Native.Nat.{_*_, _≤_, _<_}
 use native.Mathlib.Omega.{arith}
 use lib.ListN.{length}
 use denote.Ref.{now}
+use Rattle.layout.specs.Layout.{record-size}
 use Rattle.model.specs.Layers.{Content, use-only, insert}
 use Rattle.image.specs.Area.{records-of, with-records}
 use Rattle.records.specs.declared.Found.the-variants.{At, Absent}
@@ -13,7 +14,7 @@ use Rattle.records.proofs.touch.Statement.{statement}
 use Rattle.records.proofs.touch.Tie as tie
 
 -- The numbers of each arm.
-at-i : (c : tie.After-write-u64-arg) → let st = c .before .before .before .before .before in let i = c .before .before .place .given .0 .0 in (i < st .args .n) × (st .args .n * 104 ≤ length (now (st .args .s)))
+at-i : (c : tie.After-write-u64-arg) → let st = c .before .before .before .before .before in let i = c .before .before .place .given .0 .0 in (i < st .args .n) × (st .args .n * record-size ≤ length (now (st .args .s)))
 at-i c =
     let st = c .before .before .before .before .before in
     let i = c .before .before .place .given .0 .0 in

@@ -1,7 +1,7 @@
 -- `records::write_content` meets its contract. Assumes nothing.
 use borrow.Author.Needs.{needs}
 use denote.Ref.{now}
-use Rattle.records.proofs.Written.{six-words}
+use Rattle.records.proofs.Written.{seven-words}
 use Rattle.records.proofs.write_content.Statement.{statement}
 use Rattle.records.proofs.write_content.Tie as tie
 
@@ -38,12 +38,19 @@ add-write-u64-5 c = search needs
 write-u64-requires-6 : tie.Need-write-u64-requires-6
 write-u64-requires-6 c κs = search needs
 
+add-write-u64-6 : tie.Need-add-write-u64-6
+add-write-u64-6 c = search needs
+
+write-u64-requires-7 : tie.Need-write-u64-requires-7
+write-u64-requires-7 c κs = search needs
+
 same-length : tie.Need-same-length
 same-length c = search needs
 
 returns : tie.Need-returns
 returns c =
-    let w6 = c .before .before in
+    let w7 = c .before .before in
+    let w6 = w7 .before .before .before .before in
     let w5 = w6 .before .before .before .before in
     let w4 = w5 .before .before .before .before in
     let w3 = w4 .before .before .before .before in
@@ -51,8 +58,8 @@ returns c =
     let w1 = w2 .before .before .before .before in
     let st = w1 .before .before .before in
     let a = st .args in
-    six-words (a .at) (a .used) (a .flag) (a .value .w0) (a .value .w1) (a .value .w2) (a .value .w3) (now (a .s))
-    (w1 .write-u64 .ensures) (w2 .write-u642 .ensures) (w3 .write-u643 .ensures) (w4 .write-u644 .ensures) (w5 .write-u645 .ensures) (w6 .write-u646 .ensures) (st .pre)
+    seven-words (a .at) (a .used) (a .flag) (a .value .w0) (a .value .w1) (a .value .w2) (a .value .w3) (now (a .s))
+    (w1 .write-u64 .ensures) (w2 .write-u642 .ensures) (w3 .write-u643 .ensures) (w4 .write-u644 .ensures) (w5 .write-u645 .ensures) (w6 .write-u646 .ensures) 0 (w7 .write-u647 .ensures) (st .pre)
 
 pub write-content-spec : {M : Type 1} → statement M
 write-content-spec =
@@ -69,5 +76,7 @@ write-content-spec =
     write-u64-requires-5
     add-write-u64-5
     write-u64-requires-6
+    add-write-u64-6
+    write-u64-requires-7
     same-length
     returns)

@@ -7,7 +7,7 @@ use native.Mathlib.Omega.{arith}
 use lib.ListN.{length}
 use denote.Ref.{now}
 use Rattle.order.specs.Index.{numbers, Ordered, up-from}
-use Rattle.rules.proofs.PartLaws.{front-part, front-fits}
+use Rattle.order.proofs.PartLaws.{front-part, front-fits}
 use Rattle.rules.proofs.cross_rules.Statement.{statement}
 use Rattle.rules.proofs.cross_rules.Tie as tie
 

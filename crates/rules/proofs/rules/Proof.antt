@@ -13,8 +13,9 @@ use Rattle.image.specs.Area.{records-of}
 use Rattle.order.specs.Index.{numbers, Names, up-from, no-record}
 use Rattle.order.proofs.IndexLaws.{all-at, names-up}
 use Rattle.order.proofs.MergeLaws.{all-ordered}
-use Rattle.rules.specs.Rules.{use-of, has-value, broken}
-use Rattle.rules.proofs.WalkLaws.{walk, turn-last, turn-more, bit-small, walk-end}
+use Rattle.order.specs.Walk.{use-of, has-value}
+use Rattle.rules.specs.Rules.{broken}
+use Rattle.order.proofs.WalkLaws.{walk, turn-last, turn-more, bit-small, walk-end}
 use Rattle.rules.proofs.RuleLaws.{Met, unmet, meets, rules-say}
 use Rattle.rules.proofs.rules.Statement.{statement}
 use Rattle.rules.proofs.rules.Tie as tie

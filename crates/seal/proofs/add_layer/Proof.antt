@@ -4,6 +4,7 @@ use mathlib.Core.Path.{ap, _∙_}
 use native.Mathlib.Omega.{arith}
 use denote.Ref.{now}
 use borrow.Author.Needs.{needs}
+use Rattle.layout.specs.Layout.{ends-offset}
 use Rattle.model.specs.Numbers.{be}
 use Rattle.words.specs.Parts.{placed}
 use Rattle.seal.proofs.Headers.{two-words}
@@ -35,7 +36,7 @@ returns c =
     let w1 = w2 .before .before .before .before in
     let st = w1 .before .before .before in
     let a = st .args in
-    w3 .write-u643 .ensures ∙ ap (placed (192 + 8 * a .k) (be 8 (a .n))) (two-words (a .k) (a .n) (now (a .work)) _ _ (omega (arith, st .pre .1)) (w1 .write-u64 .ensures) (w2 .write-u642 .ensures))
+    w3 .write-u643 .ensures ∙ ap (placed (ends-offset + 8 * a .k) (be 8 (a .n))) (two-words (a .k) (a .n) (now (a .work)) _ _ (omega (arith, st .pre .1)) (w1 .write-u64 .ensures) (w2 .write-u642 .ensures))
 
 pub add-layer-spec : {M : Type 1} → statement M
 add-layer-spec =

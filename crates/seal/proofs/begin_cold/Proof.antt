@@ -5,6 +5,7 @@ use native.Mathlib.Omega.{arith}
 use lib.ListN.{length}
 use denote.Ref.{now}
 use borrow.Author.Needs.{needs}
+use Rattle.layout.specs.Layout.{record-size, records-offset}
 use Rattle.image.specs.Lent.{store-of}
 use Rattle.image.proofs.Lent.{store-in}
 use Rattle.layers.proofs.Header.{header-room}
@@ -19,7 +20,7 @@ read-u64-requires c κs = omega (arith, header-room _ (c .before .before .pre .0
 capacity-is : (c : tie.After-read-u64) → c .read-u64 .result ≡ store-of (now (c .before .before .before .args .s)) .config .capacity
 capacity-is c = c .read-u64 .ensures ∙ store-in _ (c .before .before .before .pre .0) .capacity-word
 
-room : (c : tie.After-read-u64) → 6848 + 104 * c .read-u64 .result ≤ length (now (c .before .before .before .args .work))
+room : (c : tie.After-read-u64) → records-offset + record-size * c .read-u64 .result ≤ length (now (c .before .before .before .args .work))
 room c = omega (arith, capacity-is c, c .before .before .before .pre .1)
 
 write-header-requires : tie.Need-write-header-requires

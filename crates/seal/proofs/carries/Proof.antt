@@ -4,8 +4,8 @@ use mathlib.Core.Bool.{Bool}
 use borrow.Author.Needs.{needs}
 use Rattle.model.specs.declared.read_hub.Lineage.{Lineage}
 use Rattle.model.specs.declared.read_hub.Lineage.the-variants.{Linked, NoParent, NotConsecutive, ParentHashUnknown, ParentHashMismatch}
-use Rattle.model.specs.declared.read_hub.BalSkip.{BalSkip}
-use Rattle.model.specs.declared.read_hub.BalSkip.the-variants.{Decoded, NoAnchorHash, Rpc, Decode}
+use Rattle.model.specs.declared.bal_prefetch.BalSkip.{BalSkip}
+use Rattle.model.specs.declared.bal_prefetch.BalSkip.the-variants.{Decoded, NoAnchorHash, Rpc, Decode}
 use Rattle.model.specs.Advance.{carries}
 use Rattle.seal.proofs.carries.Statement.{statement}
 use Rattle.seal.proofs.carries.Tie as tie

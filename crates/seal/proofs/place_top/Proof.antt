@@ -4,10 +4,11 @@ use native.Mathlib.Omega.{arith}
 use lib.ListN.{length}
 use denote.Ref.{now}
 use borrow.Author.Needs.{needs}
+use Rattle.layout.specs.Layout.{record-size, records-offset}
 use Rattle.image.proofs.Areas.{GenerationBytes}
 use Rattle.image.proofs.Lent.{generation-in}
 use Rattle.layers.proofs.Header.{header-room}
-use Rattle.known.proofs.Segments.{known-bytes}
+use Rattle.header.proofs.Segments.{known-bytes}
 use Rattle.seal.proofs.Folded.{topped-by, all-fit}
 use Rattle.seal.proofs.place_top.Statement.{statement}
 use Rattle.seal.proofs.place_top.Tie as tie
@@ -19,7 +20,7 @@ top-start-requires : tie.Need-top-start-requires
 top-start-requires c κs = search needs
 
 -- The base's records, and the top's behind them, are within the capacity, and so within the store and the work area.
-base-fits : (c : tie.After-top-start) → 6848 + 104 * c .top-start .result ≤ length (now (c .before .before .before .before .args .s))
+base-fits : (c : tie.After-top-start) → records-offset + record-size * c .top-start .result ≤ length (now (c .before .before .before .before .args .s))
 base-fits c =
     let st = c .before .before .before .before in
     let w : GenerationBytes (now (st .args .s)) _ _ = generation-in (now (st .args .s)) (st .pre .0) in
@@ -33,13 +34,13 @@ within c =
 left-few : (c : tie.After-top-count) → c .before .before .before .before .before .args .left ≤ c .before .top-start .result
 left-few c = omega (arith, c .before .top-start .ensures, c .before .before .before .before .before .pre .1)
 
-room : (c : tie.After-top-count) → 6848 + 104 * c .before .before .read-u64 .result ≤ length (now (c .before .before .before .before .before .args .s))
+room : (c : tie.After-top-count) → records-offset + record-size * c .before .before .read-u64 .result ≤ length (now (c .before .before .before .before .before .args .s))
 room c =
     let st = c .before .before .before .before .before in
     let w : GenerationBytes (now (st .args .s)) _ _ = generation-in (now (st .args .s)) (st .pre .0) in
     omega (arith, c .before .before .read-u64 .ensures, w .store .capacity-word, w .store .long)
 
-work-room : (c : tie.After-top-count) → 6848 + 104 * c .before .before .read-u64 .result ≤ length (now (c .before .before .before .before .before .args .work))
+work-room : (c : tie.After-top-count) → records-offset + record-size * c .before .before .read-u64 .result ≤ length (now (c .before .before .before .before .before .args .work))
 work-room c =
     let st = c .before .before .before .before .before in
     let w : GenerationBytes (now (st .args .s)) _ _ = generation-in (now (st .args .s)) (st .pre .0) in

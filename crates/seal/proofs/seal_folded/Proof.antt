@@ -7,7 +7,7 @@ use borrow.Author.Needs.{needs}
 use Rattle.model.specs.Layers.{record-count}
 use Rattle.image.specs.Lent.{generation-of}
 use Rattle.layers.proofs.Header.{header-room}
-use Rattle.known.proofs.Segments.{known-bytes}
+use Rattle.header.proofs.Segments.{known-bytes}
 use Rattle.seal.proofs.Compacted.{length-part, fold-asks, fold-room, fold-total, left-few, report-is, compacted-by}
 use Rattle.seal.proofs.seal_folded.Statement.{statement}
 use Rattle.seal.proofs.seal_folded.Tie as tie

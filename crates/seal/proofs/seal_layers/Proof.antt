@@ -4,11 +4,12 @@ use native.Mathlib.Omega.{arith}
 use lib.ListN.{length}
 use denote.Ref.{now}
 use borrow.Author.Needs.{needs}
+use Rattle.layout.specs.Layout.{record-size, records-offset}
 use Rattle.image.specs.Lent.{generation-of}
 use Rattle.image.proofs.Areas.{StoreBytes}
 use Rattle.image.proofs.Lent.{store-in}
 use Rattle.layers.proofs.Header.{header-room}
-use Rattle.known.proofs.Segments.{known-bytes}
+use Rattle.header.proofs.Segments.{known-bytes}
 use Rattle.seal.proofs.Kept.{kept-few, sealed-by}
 use Rattle.seal.proofs.seal_layers.Statement.{statement}
 use Rattle.seal.proofs.seal_layers.Tie as tie
@@ -28,13 +29,13 @@ few c =
     let st = c .before .before .before .before .before in
     omega (arith, c .kept-layers .ensures, kept-few (generation-of (now (st .args .s)) .base), st .pre .1)
 
-room : (c : tie.After-kept-layers) → 6848 + 104 * c .before .before .read-u64 .result ≤ length (now (c .before .before .before .before .before .args .s))
+room : (c : tie.After-kept-layers) → records-offset + record-size * c .before .before .read-u64 .result ≤ length (now (c .before .before .before .before .before .args .s))
 room c =
     let st = c .before .before .before .before .before in
     let z : StoreBytes (now (st .args .s)) _ = store-in (now (st .args .s)) (st .pre .0 .is-store) in
     omega (arith, c .before .before .read-u64 .ensures, z .capacity-word, z .long)
 
-work-room : (c : tie.After-kept-layers) → 6848 + 104 * c .before .before .read-u64 .result ≤ length (now (c .before .before .before .before .before .args .work))
+work-room : (c : tie.After-kept-layers) → records-offset + record-size * c .before .before .read-u64 .result ≤ length (now (c .before .before .before .before .before .args .work))
 work-room c =
     let st = c .before .before .before .before .before in
     let z : StoreBytes (now (st .args .s)) _ = store-in (now (st .args .s)) (st .pre .0 .is-store) in

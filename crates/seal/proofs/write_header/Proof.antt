@@ -9,7 +9,7 @@ use Rattle.model.specs.Slots.{u256-words}
 use Rattle.image.specs.Image.{hash-words}
 use Rattle.image.specs.Lent.{store-of}
 use Rattle.layers.proofs.Header.{header-room}
-use Rattle.known.proofs.Segments.{known-bytes}
+use Rattle.header.proofs.Segments.{known-bytes}
 use Rattle.seal.proofs.Headers.{header-written}
 use Rattle.seal.proofs.Kept.{config-part}
 use Rattle.seal.proofs.write_header.Statement.{statement}

@@ -3,21 +3,24 @@ use mathlib.Core.Path.{_∙_}
 use lib.ListN.{drop}
 use denote.Ref.{now}
 use Rattle.model.specs.Entries.{address-of}
-use Rattle.seed.proofs.Entries.{number-in}
+use Rattle.entries.proofs.Numbers.{number-in}
 use Rattle.seed.proofs.Rising.{first-less, second-less, third-less}
 use borrow.Author.Needs.{needs}
 use Rattle.seed.proofs.address_before.Statement.{statement}
 use Rattle.seed.proofs.address_before.Tie as tie
 
-read-u32-requires : tie.Need-read-u32-requires
-read-u32-requires c κs = search needs
+half-requires : tie.Need-half-requires
+half-requires c κs = search needs
+
+cast-a : tie.Need-cast-a
+cast-a c = search needs
 
 returns : tie.Need-returns
 returns c =
     let t = c .before in
     let r = t .before .before in
     let a = r .before .before .args in
-    first-less (address-of (drop (a .at) (now (a .addresses)))) (a .address) (r .read-u32 .result) (r .read-u32 .ensures) (t .if1 .taken)
+    first-less (address-of (drop (a .at) (now (a .addresses)))) (a .address) (r .half .result) (r .half .ensures .0) (t .if1 .taken)
 
 add-read-u64 : tie.Need-add-read-u64
 add-read-u64 c = search needs
@@ -32,7 +35,7 @@ returns-2 c =
     let e = q .before in
     let r = e .before .before in
     let a = r .before .before .args in
-    second-less (address-of (drop (a .at) (now (a .addresses)))) (a .address) (r .read-u32 .result) (r .read-u32 .ensures) (e .if1 .left)
+    second-less (address-of (drop (a .at) (now (a .addresses)))) (a .address) (r .half .result) (r .half .ensures .0) (e .if1 .left)
     (q .read-u64 .result) (q .read-u64 .ensures ∙ number-in 4 (a .at) 8 (now (a .addresses))) (t .if2 .taken)
 
 add-read-u64-2 : tie.Need-add-read-u64-2
@@ -49,14 +52,15 @@ returns-3 c =
     let e = q .before in
     let r = e .before .before in
     let a = r .before .before .args in
-    third-less (address-of (drop (a .at) (now (a .addresses)))) (a .address) (r .read-u32 .result) (r .read-u32 .ensures) (e .if1 .left)
+    third-less (address-of (drop (a .at) (now (a .addresses)))) (a .address) (r .half .result) (r .half .ensures .0) (e .if1 .left)
     (q .read-u64 .result) (z .read-u642 .result) (q .read-u64 .ensures ∙ number-in 4 (a .at) 8 (now (a .addresses))) (f .if2 .left) (z .read-u642 .ensures ∙ number-in 12 (a .at) 8 (now (a .addresses)))
 
 pub address-before-spec : {M : Type 1} → statement M
 address-before-spec =
     tie.close
     (tie.spec
-    read-u32-requires
+    half-requires
+    cast-a
     returns
     add-read-u64
     read-u64-requires

@@ -1,6 +1,6 @@
 -- `seed::apply` meets its contract. Assumes nothing.
 use denote.Ref.{now}
-use Rattle.known.proofs.Segments.{known-bytes}
+use Rattle.header.proofs.Segments.{known-bytes}
 use Rattle.seed.proofs.Applying.{wrote-over, wrote-new, wrote-none}
 use borrow.Author.Needs.{needs}
 use Rattle.seed.proofs.apply.Statement.{statement}

@@ -20,11 +20,11 @@ abbrev μ-loop : tie.MeasureT-loop
 loop-holds : tie.Need-loop-holds Inv-loop μ-loop
 loop-holds c = (search needs, refl, search needs, (λ j h. absurd (omega arith)))
 
-mul-address-at : tie.Need-mul-address-at Inv-loop μ-loop
-mul-address-at c = search needs
+mul-read-address : tie.Need-mul-read-address Inv-loop μ-loop
+mul-read-address c = search needs
 
-address-at-requires : tie.Need-address-at-requires Inv-loop μ-loop
-address-at-requires c κs = search needs
+read-address-requires : tie.Need-read-address-requires Inv-loop μ-loop
+read-address-requires c κs = search needs
 
 bucket-requires : tie.Need-bucket-requires Inv-loop μ-loop
 bucket-requires c κs = search needs
@@ -54,7 +54,7 @@ loop-again c =
       search needs,
       search needs,
       search needs,
-      note-more (l .loop .table) (now (a .addresses)) (l .loop .i) (c .bucket .result) (l .loop .i % 65535 + 1) (omega arith) (l .loop .inv .3) (c .bucket .ensures ∙ ap (λ (x : Address). bucket-of x) (c .before .address-at .ensures)) (omega arith),
+      note-more (l .loop .table) (now (a .addresses)) (l .loop .i) (c .bucket .result) (l .loop .i % 65535 + 1) (omega arith) (l .loop .inv .3) (c .bucket .ensures ∙ ap (λ (x : Address). bucket-of x) (c .before .read-address .ensures)) (omega arith),
     )
 
 same-length : tie.Need-same-length Inv-loop μ-loop
@@ -70,8 +70,8 @@ note-spec =
     Inv-loop
     μ-loop
     loop-holds
-    mul-address-at
-    address-at-requires
+    mul-read-address
+    read-address-requires
     bucket-requires
     add-table
     cast-table

@@ -25,17 +25,17 @@ loop-holds c = (search needs, refl, refl)
 here : (c : tie.In-loop Inv-loop μ-loop) → c .before .loop .i * 20 + 20 ≤ length (now (c .before .before .before .args .addresses))
 here c = entry-fits 20 (c .before .loop .i) (length (now (c .before .before .before .args .addresses))) (omega arith)
 
-mul-same-address : tie.Need-mul-same-address Inv-loop μ-loop
-mul-same-address c = omega (arith, here c)
+mul-is-address : tie.Need-mul-is-address Inv-loop μ-loop
+mul-is-address c = omega (arith, here c)
 
-same-address-requires : tie.Need-same-address-requires Inv-loop μ-loop
-same-address-requires c κs = omega (arith, here c)
+is-address-requires : tie.Need-is-address-requires Inv-loop μ-loop
+is-address-requires c κs = omega (arith, here c)
 
 returns : tie.Need-returns Inv-loop μ-loop
 returns c =
     let l = c .before .before .before .loop in
     let a = c .before .before .before .before .before .args in
-    sym (relevant-at (now (a .addresses)) (a .address) (l .i) true (omega arith) (sym (c .before .same-address .ensures) ∙ c .if1 .taken)) ∙ l .inv .2
+    sym (relevant-at (now (a .addresses)) (a .address) (l .i) true (omega arith) (sym (c .before .is-address .ensures) ∙ c .if1 .taken)) ∙ l .inv .2
 
 add-i : tie.Need-add-i Inv-loop μ-loop
 add-i c = search needs
@@ -49,7 +49,7 @@ loop-again c =
     let a = c .before .before .before .before .before .args in (
       search needs,
       search needs,
-      sym (relevant-at (now (a .addresses)) (a .address) (l .i) false (omega arith) (sym (c .before .same-address .ensures) ∙ c .if1 .left)) ∙ l .inv .2,
+      sym (relevant-at (now (a .addresses)) (a .address) (l .i) false (omega arith) (sym (c .before .is-address .ensures) ∙ c .if1 .left)) ∙ l .inv .2,
     )
 
 returns-2 : tie.Need-returns-2 Inv-loop μ-loop
@@ -65,8 +65,8 @@ relevant-spec =
     Inv-loop
     μ-loop
     loop-holds
-    mul-same-address
-    same-address-requires
+    mul-is-address
+    is-address-requires
     returns
     add-i
     loop-less

@@ -4,8 +4,6 @@ use Prim.Native.Nat.{ℕ, _-_}
 use native.Mathlib.Omega.{arith}
 use lib.ListN.{getD}
 use denote.Ref.{now}
-use Rattle.model.specs.declared.storage_memo.Address.{Address}
-use Rattle.model.specs.Slots.{address-eqb}
 use Rattle.seed.proofs.Rising.{not-noted, found-at}
 use borrow.Author.Needs.{needs}
 use Rattle.seed.proofs.relevant_in.Statement.{statement}
@@ -30,28 +28,24 @@ returns c =
     let a = st .args in
     not-noted (now (a .addresses)) (a .address) (now (a .table)) (st .pre .noted) (ap (λ (k : ℕ). getD (now (a .table)) k 0) (sym (q .bucket .ensures)) ∙ c .if1 .taken)
 
-sub-address-at : tie.Need-sub-address-at
-sub-address-at c = search needs
+sub-is-address : tie.Need-sub-is-address
+sub-is-address c = search needs
 
-mul-address-at : tie.Need-mul-address-at
-mul-address-at c = search needs
+mul-is-address : tie.Need-mul-is-address
+mul-is-address c = search needs
 
-address-at-requires : tie.Need-address-at-requires
-address-at-requires c κs = search needs
-
-equal-requires : tie.Need-equal-requires
-equal-requires c κs = search needs
+is-address-requires : tie.Need-is-address-requires
+is-address-requires c κs = search needs
 
 returns-2 : tie.Need-returns-2
 returns-2 c =
     let e = c .before in
-    let d = e .before in
-    let t = d .before in
+    let t = e .before in
     let f = t .before in
     let q = f .before .before in
     let a = q .before .before .before .args in
     found-at (now (a .addresses)) (a .address) (getD (now (a .table)) (q .bucket .result) 0 - 1) (omega (arith, t .if2 .taken, f .if1 .left))
-    (sym (e .equal .ensures ∙ ap (λ (x : Address). address-eqb x (a .address)) (d .address-at .ensures)) ∙ c .if3 .taken)
+    (sym (e .is-address .ensures) ∙ c .if3 .taken)
 
 relevant-by-requires : tie.Need-relevant-by-requires
 relevant-by-requires c κs = search needs
@@ -68,10 +62,9 @@ relevant-in-spec =
     shared-slice-read-k
     cast-k
     returns
-    sub-address-at
-    mul-address-at
-    address-at-requires
-    equal-requires
+    sub-is-address
+    mul-is-address
+    is-address-requires
     returns-2
     relevant-by-requires
     returns-3)

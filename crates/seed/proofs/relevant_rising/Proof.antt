@@ -1,15 +1,12 @@
 -- `seed::relevant_rising` meets its contract. Assumes nothing.
-use mathlib.Core.Path.{_≡_, refl, sym, ap, _∙_}
+use mathlib.Core.Path.{_≡_, refl, sym, _∙_}
 use mathlib.Core.Bool.{true, false}
-use Prim.Native.Nat.{ℕ, _+_, _-_, _*_, _/_, _≤_, _<_}
+use Prim.Native.Nat.{ℕ, _+_, _-_, _/_, _≤_, _<_}
 use native.Mathlib.Omega.{arith}
-use lib.ListN.{length, drop}
+use lib.ListN.{length}
 use denote.Ref.{now}
 use borrow.Author.Needs.{needs}
-use Rattle.model.specs.declared.storage_memo.Address.{Address}
-use Rattle.model.specs.Slots.{address-eqb}
 use Rattle.seed.specs.Rising.{address-ltb, address-in}
-use Rattle.words.proofs.Places.{entry-fits}
 use Rattle.seed.proofs.Rising.{below-middle, above-middle, all-below, decided}
 use Rattle.seed.proofs.relevant_rising.Statement.{statement}
 use Rattle.seed.proofs.relevant_rising.Tie as tie
@@ -82,22 +79,18 @@ returns c =
     let a = st .args in
     all-below (now (a .addresses)) (st .pre) (a .address) (l .loop .lo) (omega arith) (l .loop .inv .3)
 
-mul-address-at : tie.Need-mul-address-at Inv-loop μ-loop
-mul-address-at c = search needs
+mul-is-address : tie.Need-mul-is-address Inv-loop μ-loop
+mul-is-address c = search needs
 
-address-at-requires : tie.Need-address-at-requires Inv-loop μ-loop
-address-at-requires c κs = search needs
-
-equal-requires : tie.Need-equal-requires Inv-loop μ-loop
-equal-requires c κs = search needs
+is-address-requires : tie.Need-is-address-requires Inv-loop μ-loop
+is-address-requires c κs = search needs
 
 returns-2 : tie.Need-returns-2 Inv-loop μ-loop
 returns-2 c =
-    let f = c .before in
-    let l = f .before .before .before in
+    let l = c .before .before .before in
     let st = l .before .before in
     let a = st .args in
-    decided (now (a .addresses)) (st .pre) (a .address) (l .loop .lo) (c .equal .result) (omega arith) (l .loop .inv .3) (l .loop .inv .4 (l .loop .lo) (omega arith) (omega arith)) (c .equal .ensures ∙ ap (λ (x : Address). address-eqb x (a .address)) (f .address-at .ensures))
+    decided (now (a .addresses)) (st .pre) (a .address) (l .loop .lo) (c .is-address .result) (omega arith) (l .loop .inv .3) (l .loop .inv .4 (l .loop .lo) (omega arith) (omega arith)) (c .is-address .ensures)
 
 pub relevant-rising-spec : {M : Type 1} → statement M
 relevant-rising-spec =
@@ -116,7 +109,6 @@ relevant-rising-spec =
     loop-less-2
     loop-again-2
     returns
-    mul-address-at
-    address-at-requires
-    equal-requires
+    mul-is-address
+    is-address-requires
     returns-2)

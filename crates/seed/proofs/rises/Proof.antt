@@ -1,15 +1,12 @@
 -- `seed::rises` meets its contract. Assumes nothing.
 use mathlib.Core.Path.{_≡_, refl, sym, ap, _∙_}
-use mathlib.Core.Bool.{Bool, true, false}
-use Prim.Native.Nat.{_+_, _-_, _*_, _/_, _≤_, _<_}
+use Prim.Native.Nat.{_+_, _-_, _/_, _≤_}
 use native.Mathlib.Omega.{arith}
-use lib.ListN.{length, drop}
+use lib.ListN.{length}
 use denote.Ref.{now}
 use borrow.Author.Needs.{needs}
-use Rattle.model.specs.declared.storage_memo.Address.{Address}
 use Rattle.model.proofs.SlotLaws.{not-both}
 use Rattle.seed.specs.Rising.{address-ltb, address-in}
-use Rattle.words.proofs.Places.{entry-fits}
 use Rattle.seed.proofs.Rising.{RiseTo, rise-more}
 use Rattle.seed.proofs.rises.Statement.{statement}
 use Rattle.seed.proofs.rises.Tie as tie
@@ -32,11 +29,11 @@ add-address-before c = search needs
 mul-address-before : tie.Need-mul-address-before Inv-loop μ-loop
 mul-address-before c = search needs
 
-mul-address-at : tie.Need-mul-address-at Inv-loop μ-loop
-mul-address-at c = search needs
+mul-read-address : tie.Need-mul-read-address Inv-loop μ-loop
+mul-read-address c = search needs
 
-address-at-requires : tie.Need-address-at-requires Inv-loop μ-loop
-address-at-requires c κs = search needs
+read-address-requires : tie.Need-read-address-requires Inv-loop μ-loop
+read-address-requires c κs = search needs
 
 address-before-requires : tie.Need-address-before-requires Inv-loop μ-loop
 address-before-requires c κs = search needs
@@ -57,7 +54,7 @@ loop-again c =
     let a = l .before .before .args in (
       search needs,
       search needs,
-      rise-more (l .loop .i) (now (a .addresses)) (l .loop .inv .2) (sym (q .address-before .ensures ∙ ap (address-ltb (address-in (l .loop .i + 1) (now (a .addresses)))) (q .before .address-at .ensures)) ∙ c .if1 .left),
+      rise-more (l .loop .i) (now (a .addresses)) (l .loop .inv .2) (sym (q .address-before .ensures ∙ ap (address-ltb (address-in (l .loop .i + 1) (now (a .addresses)))) (q .before .read-address .ensures)) ∙ c .if1 .left),
     )
 
 returns-2 : tie.Need-returns-2 Inv-loop μ-loop
@@ -73,8 +70,8 @@ rises-spec =
     add-loop
     add-address-before
     mul-address-before
-    mul-address-at
-    address-at-requires
+    mul-read-address
+    read-address-requires
     address-before-requires
     returns
     add-i

@@ -6,7 +6,7 @@ use lib.ListN.{length, drop}
 use denote.Ref.{now}
 use borrow.Author.Needs.{needs}
 use Rattle.model.specs.Entries.{write-of}
-use Rattle.known.proofs.Segments.{known-bytes}
+use Rattle.header.proofs.Segments.{known-bytes}
 use Rattle.seed.specs.Writes.{Wrote}
 use Rattle.words.proofs.Places.{entry-fits}
 use Rattle.seed.proofs.Seeding.{Along, along-start, wrote-at, along-full, along-next, along-end}
@@ -100,7 +100,7 @@ loop-again c =
       search needs,
       search needs,
       search needs,
-      along-next (now (a .s)) (now (a .addresses)) (now (a .writes)) (l .loop .s) (l .loop .counts) (l .loop .i) (l .loop .inv .3) _ _ _ (known-bytes (now (a .writes)) (l .before .shared-slice-known3 .given)) (known-bytes (p .apply .last .0) (k .slice-known2 .given)) (e .0) (e .1) (said p) (d .done .given .1) _ (c .counted .ensures),
+      along-next (now (a .s)) (now (a .addresses)) (now (a .writes)) (l .loop .s) (l .loop .counts) (l .loop .i) (l .loop .inv .3) _ _ _ (known-bytes (now (a .writes)) (l .before .shared-slice-known3 .given)) (known-bytes (p .apply .last .0) (k .slice-known2 .given)) (e .0) (said p) (d .done .given .1) _ (c .counted .ensures),
     )
 
 same-length-2 : tie.Need-same-length-2 Inv-loop μ-loop

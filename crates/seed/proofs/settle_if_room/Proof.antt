@@ -2,7 +2,7 @@
 use borrow.Author.Tests.{not-true, not-false}
 use denote.Ref.{now}
 use Rattle.model.specs.Layers.{valued}
-use Rattle.known.proofs.Guards.{room-yes}
+use Rattle.top.proofs.Rooms.{room-yes}
 use Rattle.seed.proofs.Applying.{settled-not, settled-so}
 use borrow.Author.Needs.{needs}
 use Rattle.seed.proofs.settle_if_room.Statement.{statement}

@@ -2,7 +2,7 @@
 use mathlib.Core.Path.{_∙_}
 use Prim.Native.Nat.{_*_}
 use denote.Ref.{now}
-use Rattle.seed.proofs.Entries.{u256-in}
+use Rattle.entries.proofs.Numbers.{u256-in}
 use borrow.Author.Needs.{needs}
 use Rattle.seed.proofs.write_value_of.Statement.{statement}
 use Rattle.seed.proofs.write_value_of.Tie as tie

@@ -1,5 +1,5 @@
 -- `settling::added_at` meets its contract. Assumes nothing.
-use mathlib.Core.Path.{_≡_, sym, ap, _∙_}
+use mathlib.Core.Path.{_≡_, ap, _∙_}
 use denote.Ref.{now}
 use lib.ListN.{drop}
 use Rattle.model.specs.declared.delta_snapshot.Slot.{Slot}
@@ -18,7 +18,7 @@ use Rattle.settling.proofs.added_at.Tie as tie
 place : (c : tie.After-top-place) → let a = c .before .before .before .before .before .before .args in c .top-place .result ≡ place-in (slot-of (drop (a .at) (now (a .list)))) (generation-of (now (a .s)) .top)
 place c =
     let a = c .before .before .before .before .before .before .args in
-    c .top-place .ensures ∙ ap (λ (x : Slot). place-in x (generation-of (now (a .s)) .top)) (c .before .slot-in .ensures)
+    c .top-place .ensures ∙ ap (λ (x : Slot). place-in x (generation-of (now (a .s)) .top)) (c .before .read-slot .ensures)
 
 add-if1 : tie.Need-add-if1
 add-if1 c = search needs
@@ -31,8 +31,8 @@ returns c =
     let a = c .before .before .before .before .args in
     mark-none (a .at) (now (a .list)) (missing (slot-of (drop (a .at) (now (a .list)))) (generation-of (now (a .s)) .top)) (c .if1 .taken)
 
-slot-in-requires : tie.Need-slot-in-requires
-slot-in-requires c κs = search needs
+read-slot-requires : tie.Need-read-slot-requires
+read-slot-requires c κs = search needs
 
 top-place-requires : tie.Need-top-place-requires
 top-place-requires c κs = search needs
@@ -70,7 +70,7 @@ added-at-spec =
     add-if1
     shared-slice-read-if1
     returns
-    slot-in-requires
+    read-slot-requires
     top-place-requires
     enum-told
     enum-told-2

@@ -1,12 +1,13 @@
 -- `settling::settle_at` meets its contract. Assumes nothing.
-use native.Mathlib.Omega.{arith}
 use lib.ListN.{drop}
 use denote.Ref.{now}
 use Prim.Native.Nat.{_+_}
 use Rattle.model.specs.Entries.{slot-of, u256-at}
-use Rattle.known.proofs.Segments.{known-bytes}
+use Rattle.model.proofs.EntryLaws.{bytes-drop}
+use Rattle.image.proofs.EntriesFit.{u256-at-fits, slot-of-fits}
+use Rattle.header.proofs.Segments.{known-bytes}
 use Rattle.settling.specs.Settling.{outcome-at}
-use Rattle.settling.proofs.Members.{refused-is, valued-is, value-fits, slot-in-fits}
+use Rattle.settling.proofs.Members.{refused-is, valued-is}
 use Rattle.settling.proofs.Tops.{refused-settled, valued-settled, valued-placed}
 use borrow.Author.Needs.{needs}
 use Rattle.settling.proofs.settle_at.Statement.{statement}
@@ -25,14 +26,14 @@ returns c =
     let a = st .args in
     refused-settled (now (a .s)) (st .pre .0) (slot-of (drop (a .at) (now (a .members)))) (known-bytes (now (a .s)) (k .slice-known .given)) (outcome-at (a .at) (now (a .members))) (refused-is (a .at) (now (a .members)) (c .if1 .taken))
 
-slot-in-requires : tie.Need-slot-in-requires
-slot-in-requires c κs = search needs
+read-slot-requires : tie.Need-read-slot-requires
+read-slot-requires c κs = search needs
 
-add-value-in : tie.Need-add-value-in
-add-value-in c = search needs
+add-read-u256 : tie.Need-add-read-u256
+add-read-u256 c = search needs
 
-value-in-requires : tie.Need-value-in-requires
-value-in-requires c κs = search needs
+read-u256-requires : tie.Need-read-u256-requires
+read-u256-requires c κs = search needs
 
 top-place-requires : tie.Need-top-place-requires
 top-place-requires c κs = search needs
@@ -45,7 +46,7 @@ settle-top-requires c κs =
     let st = e1 .before .before .before .before in
     let a = st .args in
     let l = now (a .members) in
-    valued-placed (now (a .s)) (st .pre .0) (slot-of (drop (a .at) l)) (u256-at (a .at + 53) l) (v .value-in .result) (outcome-at (a .at) l) (valued-is (a .at) l (e1 .if1 .left)) (v .before .slot-in .result) (v .before .slot-in .ensures) (st .pre .2) (p .top-place .result) (p .top-place .ensures)
+    valued-placed (now (a .s)) (st .pre .0) (slot-of (drop (a .at) l)) (u256-at (a .at + 53) l) (v .read-u256 .result) (outcome-at (a .at) l) (valued-is (a .at) l (e1 .if1 .left)) (v .before .read-slot .result) (v .before .read-slot .ensures) (st .pre .2) (p .top-place .result) (p .top-place .ensures)
 
 same-length : tie.Need-same-length
 same-length c = search needs
@@ -62,7 +63,7 @@ returns-2 c =
     let l = now (a .members) in
     let f = known-bytes l (e1 .before .before .shared-slice-known .given) in
     valued-settled (now (a .s)) (st .pre .0) (slot-of (drop (a .at) l)) (u256-at (a .at + 53) l) (outcome-at (a .at) l) (valued-is (a .at) l (e1 .if1 .left))
-    (slot-in-fits (a .at) l f (omega (arith, st .pre .1))) (value-fits (a .at + 53) l f (omega (arith, st .pre .1))) (st .pre .2) _ (v .before .slot-in .result) (v .value-in .result) (v .before .slot-in .ensures) (v .value-in .ensures) (t .settle-top .ensures)
+    (slot-of-fits (drop (a .at) l) (bytes-drop (a .at) l f)) (u256-at-fits (a .at + 53) l f) (st .pre .2) _ (v .before .read-slot .result) (v .read-u256 .result) (v .before .read-slot .ensures) (v .read-u256 .ensures) (t .settle-top .ensures)
 
 pub settle-at-spec : {M : Type 1} → statement M
 settle-at-spec =
@@ -71,9 +72,9 @@ settle-at-spec =
     add-if1
     shared-slice-read-if1
     returns
-    slot-in-requires
-    add-value-in
-    value-in-requires
+    read-slot-requires
+    add-read-u256
+    read-u256-requires
     top-place-requires
     settle-top-requires
     same-length

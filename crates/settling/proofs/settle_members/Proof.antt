@@ -7,7 +7,7 @@ use denote.Ref.{now}
 use Rattle.model.specs.Reads.{settle-members}
 use Rattle.model.specs.Entries.{members-of}
 use Rattle.image.specs.Lent.{generation-of}
-use Rattle.known.proofs.Segments.{known-bytes}
+use Rattle.header.proofs.Segments.{known-bytes}
 use Rattle.settling.specs.Settling.{Settled}
 use Rattle.settling.proofs.Tops.{unchanged, next-room, next, all-settled}
 use borrow.Author.Needs.{needs}

@@ -1,7 +1,8 @@
--- `store::get` meets its contract: 20, or what `known::get` does. Assumes nothing.
+-- `store::get` meets its contract: 20, or what `unchecked_calls::get` does. Assumes nothing.
 use denote.Ref.{now}
 use Rattle.model.specs.Store.{at-anchor, get}
-use Rattle.store.proofs.Checked.{not-a-store, a-store}
+use Rattle.unchecked_reads.proofs.Said.{stepped}
+use Rattle.store.proofs.Checked.{a-store, refused-20}
 use borrow.Author.Needs.{needs}
 use Rattle.store.proofs.get.Statement.{statement}
 use Rattle.store.proofs.get.Tie as tie
@@ -15,7 +16,7 @@ same-length c = search needs
 returns : tie.Need-returns
 returns c =
     let a = c .before .before .before .before .args in
-    not-a-store (now (a .s)) (at-anchor (a .anchor) (get (a .slot))) (c .before .is-store .result) (c .before .is-store .ensures) (c .if1 .taken)
+    stepped (refused-20 (now (a .s)) _ (c .before .is-store .ensures) (at-anchor (a .anchor) (get (a .slot))) 0 0 (c .if1 .taken))
 
 get-requires : tie.Need-get-requires
 get-requires c κs =

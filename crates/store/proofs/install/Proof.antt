@@ -1,7 +1,8 @@
--- `store::install` meets its contract: 20, or what `known::install` does. Assumes nothing.
+-- `store::install` meets its contract: 20, or what `unchecked_calls::install` does. Assumes nothing.
 use denote.Ref.{now}
 use Rattle.model.specs.Store.{install}
-use Rattle.store.proofs.Checked.{not-a-store, a-store}
+use Rattle.unchecked_reads.proofs.Said.{stepped}
+use Rattle.store.proofs.Checked.{a-store, refused-20}
 use borrow.Author.Needs.{needs}
 use Rattle.store.proofs.install.Statement.{statement}
 use Rattle.store.proofs.install.Tie as tie
@@ -15,7 +16,7 @@ same-length c = search needs
 returns : tie.Need-returns
 returns c =
     let a = c .before .before .before .before .args in
-    not-a-store (now (a .s)) (install (a .anchor)) (c .before .is-store .result) (c .before .is-store .ensures) (c .if1 .taken)
+    stepped (refused-20 (now (a .s)) _ (c .before .is-store .ensures) (install (a .anchor)) 0 0 (c .if1 .taken))
 
 install-requires : tie.Need-install-requires
 install-requires c κs =

@@ -1,7 +1,7 @@
--- `store::open` meets its contract: 1, 2, 9, or what `known::open` does. Assumes nothing.
+-- `store::open` meets its contract: 1, 2, 9, or what `unchecked_calls::open` does. Assumes nothing.
 use denote.Ref.{now}
 use native.Mathlib.Omega.{arith}
-use Rattle.known.proofs.Said.{said-1-none, said-1, said-2, said-9}
+use Rattle.unchecked_calls.proofs.Said.{said-1-none, said-1, said-2, said-9}
 use borrow.Author.Needs.{needs}
 use Rattle.store.proofs.open.Statement.{statement}
 use Rattle.store.proofs.open.Tie as tie

@@ -1,7 +1,8 @@
--- `store::put` meets its contract: 20, or what `known::put` does. Assumes nothing.
+-- `store::put` meets its contract: 20, or what `unchecked_calls::put` does. Assumes nothing.
 use denote.Ref.{now}
 use Rattle.model.specs.Store.{at-anchor, put}
-use Rattle.store.proofs.Checked.{not-a-store, a-store}
+use Rattle.unchecked_reads.proofs.Said.{stepped}
+use Rattle.store.proofs.Checked.{a-store, refused-20}
 use borrow.Author.Needs.{needs}
 use Rattle.store.proofs.put.Statement.{statement}
 use Rattle.store.proofs.put.Tie as tie
@@ -15,7 +16,7 @@ same-length c = search needs
 returns : tie.Need-returns
 returns c =
     let a = c .before .before .before .before .args in
-    not-a-store (now (a .s)) (at-anchor (a .anchor) (put (a .slot) (a .value))) (c .before .is-store .result) (c .before .is-store .ensures) (c .if1 .taken)
+    stepped (refused-20 (now (a .s)) _ (c .before .is-store .ensures) (at-anchor (a .anchor) (put (a .slot) (a .value))) 0 0 (c .if1 .taken))
 
 put-requires : tie.Need-put-requires
 put-requires c κs =

@@ -41,6 +41,7 @@ use denote.Triple.Statement.{Contract, Triple}
 use denote.Triple.Table.{entered, cited}
 use denote.Triple.Walked.{says, needs, Stays, gave-slice, stay-none, walkOf, goes-none, goes-gave-slice, Walks, ends-at, walked, walk-meets}
 use denote.Exit.{yes}
+use Rattle.layout.specs.Layout.{ends-offset}
 use Rattle.model.specs.declared.read_hub.ReadTotals.{ReadTotals}
 use Rattle.model.proofs.read_hub.ReadTotals as T
 use Rattle.model.proofs.read_hub.ReadTotals.Laws as T′
@@ -119,7 +120,7 @@ module _ {M : Type 1} (𝓤 : URA M) (H : Heap 𝓤) (A : Atoms 𝓤) (W : Given
   abbrev to-read : ℕ → GName → Read 𝓤 H A at-mem run .Ghost
   to-read ν δ = (((ν ∷ [], tt), (fullShare, tt), tt, (x δ, tt), (s ∷ [], tt)), tt)
 
-  goes-read : 192 ≤ length ys → (ν : ℕ) (δ : GName) → ent 𝓤 (sep 𝓤 (A .lft (ν ∷ []) fullShare) (sem 𝓤 H A (ShrSlice (named 0) (ν ∷ []) u8 .own (x δ) (s ∷ [])))) (Read 𝓤 H A at-mem run .pre (to-read ν δ))
+  goes-read : ends-offset ≤ length ys → (ν : ℕ) (δ : GName) → ent 𝓤 (sep 𝓤 (A .lft (ν ∷ []) fullShare) (sem 𝓤 H A (ShrSlice (named 0) (ν ∷ []) u8 .own (x δ) (s ∷ [])))) (Read 𝓤 H A at-mem run .pre (to-read ν δ))
   goes-read long ν δ =
       qed W (‵ (flft (ν ∷ []) fullShare) ∷ ‵ (ShrSlice (named 0) (ν ∷ []) u8 .own (x δ) (s ∷ [])) ∷ []) ∵ says ! long $ nothing ! $ move ! (1 ∷ 0 ∷ []) $ join ! $ frame ! $
       nothing ! $ move ! (1 ∷ 0 ∷ []) $ fjoin ! $ done !
@@ -138,13 +139,13 @@ module _ {M : Type 1} (𝓤 : URA M) (H : Heap 𝓤) (A : Atoms 𝓤) (W : Given
   abbrev to-write : Write 𝓤 H A at-mem run .Ghost
   to-write = (((κ, tt), (q, tt), tt, (x γ, (h′, tt)), (s ∷ [], (mach h′ ∷ [], tt))), tt)
 
-  goes-write : 192 ≤ length ys → ent 𝓤 (sep 𝓤 (A .lft κ q) (sep 𝓤 (sem 𝓤 H A (MutSlice (named 0) κ u8 .own (x γ) (s ∷ []))) (sem 𝓤 H A (T.the-row .own h′ (mach h′ ∷ []))))) (Write 𝓤 H A at-mem run .pre to-write)
+  goes-write : ends-offset ≤ length ys → ent 𝓤 (sep 𝓤 (A .lft κ q) (sep 𝓤 (sem 𝓤 H A (MutSlice (named 0) κ u8 .own (x γ) (s ∷ []))) (sem 𝓤 H A (T.the-row .own h′ (mach h′ ∷ []))))) (Write 𝓤 H A at-mem run .pre to-write)
   goes-write long =
       qed W (‵ (flft κ q) ∷ ‵ (MutSlice (named 0) κ u8 .own (x γ) (s ∷ [])) ∷ ‵ (T.the-row .own h′ (mach h′ ∷ [])) ∷ []) ∵ says ! long $ nothing ! $ move ! (1 ∷ 0 ∷ []) $ join ! $ frame ! $
       nothing ! $ move ! (2 ∷ 0 ∷ []) $ fjoin ! $ move ! (1 ∷ 0 ∷ []) $ fjoin ! $ done !
 
   module _ (C : Calls 𝓤 H) (Λ : Loops 𝓤 H) (fm : FmC 𝓤 H (W .laws) C) (known-read : Triple 𝓤 (C #totals·read-totals) (Read 𝓤 H A at-mem run)) (known-count : Triple 𝓤 (C #totals·count-answer) (Count 𝓤 H A at-mem run)) (known-write : Triple 𝓤 (C #totals·write-totals) (Write 𝓤 H A at-mem run)) where
-    walk : 192 ≤ length ys → Answerable m n c d h → Room u8 (length ys) → ent 𝓤 (onEntry 𝓤 H A f.signature (κ, tt) (q, tt) a vals) (WpFn 𝓤 H C Λ code.function (s ∷ vint w64 m ∷ vint w64 n ∷ vint w64 c ∷ vint w64 d ∷ []) Post)
+    walk : ends-offset ≤ length ys → Answerable m n c d h → Room u8 (length ys) → ent 𝓤 (onEntry 𝓤 H A f.signature (κ, tt) (q, tt) a vals) (WpFn 𝓤 H C Λ code.function (s ∷ vint w64 m ∷ vint w64 n ∷ vint w64 c ∷ vint w64 d ∷ []) Post)
     walk long able room =
         qed W ((‵ (flft κ q) ⊛ ‵ ftrue) ∷ ‵ (owns (MutSlice (named 0) κ u8 ∷ u64 ∷ u64 ∷ u64 ∷ u64 ∷ []) a vals) ∷ []) ∵ enter ! C Λ code.function (s ∷ vint w64 m ∷ vint w64 n ∷ vint w64 c ∷ vint w64 d ∷ []) _ $
         alloc1 ! (λ l₀. alloc1 ! (λ l₁. alloc1 ! (λ l₂. alloc1 ! (λ l₃. alloc1 ! (λ l₄. alloc1 ! (λ l₅. alloc1 ! (λ l₆. alloc1 ! (λ l₇. alloc1 ! (λ l₈. alloc1 ! (λ l₉. alloc1 ! (λ l₁₀. alloc1 ! (λ l₁₁. alloc1 ! (λ l₁₂. alloc1 ! (λ l₁₃. alloc0 ! $ params1 ! $ pass1 ! (init ! 24 refl (tt, (tt, (record { fits = room .0 }, tt)))) $ pass1 ! (init ! 22 refl (tt, record { fits = m-fits })) $ pass1 ! (init ! 20 refl (tt, record { fits = n-fits })) $ pass1 ! (init ! 18 refl (tt, record { fits = c-fits })) $ pass1 ! (init ! 16 refl (tt, record { fits = d-fits })) $ pass0 ! $
@@ -198,7 +199,7 @@ module _ {M : Type 1} (𝓤 : URA M) (H : Heap 𝓤) (A : Atoms 𝓤) (W : Given
       → Walks 𝓤 H A f.ended stayed (WpFn 𝓤 H C Λ code.function) (f.clauses 𝓤 H A at-mem run)
   record-answer-walks C Λ fm known-read known-count known-write = walked 𝓤 H A f.ended stayed (f.clauses 𝓤 H A at-mem run) (WpFn 𝓤 H C Λ code.function)
       (λ κs. (slice-vals, (uint-vals w64, (uint-vals w64, (uint-vals w64, (uint-vals w64, tt)))))) (λ κs. (mut-slice-tells (named 0) (κs .0) u8, (uint-tells w64, (uint-tells w64, (uint-tells w64, (uint-tells w64, tt))))))
-      (λ κs qs bounds a _ are. needs 𝓤 ((192 ≤ length (a .0 .now)) × Answerable (a .1 .0) (a .1 .1 .0) (a .1 .1 .1 .0) (a .1 .1 .1 .1 .0) (totals-of (a .0 .now))) _ (λ k.
+      (λ κs qs bounds a _ are. needs 𝓤 ((ends-offset ≤ length (a .0 .now)) × Answerable (a .1 .0) (a .1 .1 .0) (a .1 .1 .1 .0) (a .1 .1 .1 .1 .0) (totals-of (a .0 .now))) _ (λ k.
       walk 𝓤 H A W at-mem run (κs .0) (qs .0) (a .0 .ptr .0) (a .0 .ptr .1) (a .0 .name) (a .0 .now) (a .1 .0) (a .1 .1 .0) (a .1 .1 .1 .0) (a .1 .1 .1 .1 .0) (are .1 .0 .1) (are .1 .1 .0 .1) (are .1 .1 .1 .0 .1) (are .1 .1 .1 .1 .0 .1) C Λ fm known-read known-count known-write (k .0) (k .1) (are .0 .0 .1)))
 
 record-answer-meets : {M : Type 1} (𝓤 : URA M) (H : Heap 𝓤) (A : Atoms 𝓤) → Given 𝓤 H A → (at-mem : Memory → SProp 𝓤) (run : Routine → Fun 𝓤) (𝓣 : Tables 𝓤 H) → Triple 𝓤 (𝓣 .C #totals·read-totals) (Read 𝓤 H A at-mem run) → Triple 𝓤 (𝓣 .C #totals·count-answer) (Count 𝓤 H A at-mem run) → Triple 𝓤 (𝓣 .C #totals·write-totals) (Write 𝓤 H A at-mem run)

@@ -1,0 +1,2 @@
+-- Laws of walking accounts.
+pub mod AccountWalk

@@ -1,0 +1,2 @@
+-- The plan of final writes.
+pub mod Plan

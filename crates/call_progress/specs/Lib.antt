@@ -1,0 +1,2 @@
+-- The definitions that the contracts of `call_progress` cite.
+pub mod Progress

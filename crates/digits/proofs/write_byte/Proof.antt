@@ -1,0 +1,21 @@
+-- `digits::write_byte` meets its contract. Assumes nothing.
+use borrow.Author.Needs.{needs}
+use denote.Ref.{now}
+use Rattle.digits.proofs.Writing.{written-byte}
+use Rattle.digits.proofs.write_byte.Statement.{statement}
+use Rattle.digits.proofs.write_byte.Tie as tie
+
+slice-write-out : tie.Need-slice-write-out
+slice-write-out c = search needs
+
+add-result : tie.Need-add-result
+add-result c = search needs
+
+same-length : tie.Need-same-length
+same-length c = search needs
+
+returns : tie.Need-returns
+returns c = written-byte (c .args .at) (c .args .b) (now (c .args .out)) (search needs)
+
+pub write-byte-spec : {M : Type 1} → statement M
+write-byte-spec = tie.close (tie.spec slice-write-out add-result same-length returns)

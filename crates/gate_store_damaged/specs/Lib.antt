@@ -1,0 +1,2 @@
+-- The definitions that the contracts of `gate_store_damaged` cite.
+pub mod Tally

@@ -1,0 +1,2 @@
+-- Where everything in a store stands.
+pub mod Layout

@@ -1,0 +1,34 @@
+-- `store::read` meets its contract: 20, or what `unchecked_reads::read` does. Assumes nothing.
+use denote.Ref.{now}
+use Rattle.model.specs.Store.{at-anchor, read}
+use Rattle.unchecked_reads.proofs.Said.{stepped}
+use Rattle.store.proofs.Checked.{a-store, refused-20}
+use borrow.Author.Needs.{needs}
+use Rattle.store.proofs.read.Statement.{statement}
+use Rattle.store.proofs.read.Tie as tie
+
+is-store-requires : tie.Need-is-store-requires
+is-store-requires c κs = search needs
+
+same-length : tie.Need-same-length
+same-length c = search needs
+
+returns : tie.Need-returns
+returns c =
+    let a = c .before .before .before .before .args in
+    stepped (refused-20 (now (a .s)) _ (c .before .is-store .ensures) (at-anchor (a .anchor) (read (a .slot))) 0 0 (c .if1 .taken))
+
+read-requires : tie.Need-read-requires
+read-requires c κs =
+    let e = c .before in
+    a-store (now (e .before .before .before .before .args .s)) (e .before .is-store .result) (e .before .is-store .ensures) (e .if1 .left)
+
+same-length-2 : tie.Need-same-length-2
+same-length-2 c = search needs
+
+returns-2 : tie.Need-returns-2
+returns-2 c = search needs
+
+pub read-spec : {M : Type 1} → statement M
+read-spec =
+    tie.close (tie.spec is-store-requires same-length returns read-requires same-length-2 returns-2)

@@ -1,2 +1,0 @@
--- What the check of the bytes says.
-pub mod Checked

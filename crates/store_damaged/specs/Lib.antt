@@ -1,2 +1,0 @@
--- The definitions that the contracts of `store_damaged` cite.
-pub mod Tally

@@ -1,0 +1,68 @@
+// The top's records: the place of a slot, room for a record, and a record set.
+use model::delta_snapshot::Slot;
+use model::storage_memo::U256;
+use records::Found;
+ghost use mathlib.Core.Path.{_≡_};
+ghost use lib.Dec.{leb};
+ghost use Rattle.model.specs.Layers.{record-count, insert, valued, settle};
+ghost use Rattle.model.specs.Store.{chain, touched-top};
+ghost use Rattle.image.specs.Image.{overlay};
+ghost use Rattle.image.specs.Lent.{store-of, generation-of, Installed};
+ghost use Rattle.records.specs.Records.{place-in, count-after};
+ghost use Rattle.top.specs.Top.{topped, Placed};
+
+// The place of a slot among the top's records.
+pub fn top_place(s: &[u8], slot: Slot) -> Found
+    requires { ⌜ Installed (now s) ⌝ }
+    ensures { λ r. ⌜ r ≡ place-in slot (generation-of (now (s .entry)) .top) ⌝ }
+{
+    let n = layers::top_count(s);
+    let at = layout::RECORDS_OFFSET + layout::RECORD_SIZE * layers::top_start(s);
+    records::find(&s[at..], n, slot)
+}
+
+// Whether there is room for the record at a place.
+pub fn has_room(s: &[u8], place: Found) -> bool
+    requires { ⌜ Installed (now s) ⌝ }
+    ensures { λ r. ⌜ r ≡ leb (count-after place (record-count (chain (generation-of (now (s .entry)))))) (store-of (now (s .entry)) .config .capacity) ⌝ }
+{
+    match place {
+        Found::At(_) => true,
+        Found::Absent(_) => words::read_u64(s, layout::RECORDS_COUNT_OFFSET) + 1
+            <= words::read_u64(s, layout::CAPACITY_OFFSET),
+    }
+}
+
+// Sets the last use of a slot's record in the top to the installed number.
+pub fn touch_top(s: &mut [u8], place: Found, slot: Slot)
+    requires { ⌜ Placed place slot (now s) ⌝ }
+    ensures { λ _. ⌜ now (s .exit) ≡ overlay (topped (store-of (now (s .entry)) .config) (generation-of (now (s .entry))) (touched-top (generation-of (now (s .entry))) slot)) (now (s .entry)) ⌝ }
+{
+    let number = layers::installed_number(s);
+    let n = layers::top_count(s);
+    let start = layers::top_start(s);
+    let at = layout::RECORDS_OFFSET + layout::RECORD_SIZE * start;
+    let count = records::touch(&mut s[at..], n, place, slot, number);
+    words::write_u64(s, layout::RECORDS_COUNT_OFFSET, (start + count) as u64);
+}
+
+// Sets a slot's record in the top to a value and a last use.
+pub fn settle_used(s: &mut [u8], place: Found, slot: Slot, value: U256, used: u64)
+    requires { ⌜ Placed place slot (now s) ⌝ }
+    ensures { λ _. ⌜ now (s .exit) ≡ overlay (topped (store-of (now (s .entry)) .config) (generation-of (now (s .entry))) (insert slot (valued used value) (generation-of (now (s .entry)) .top))) (now (s .entry)) ⌝ }
+{
+    let n = layers::top_count(s);
+    let start = layers::top_start(s);
+    let at = layout::RECORDS_OFFSET + layout::RECORD_SIZE * start;
+    let total = records::settle(&mut s[at..], n, place, slot, value, used);
+    words::write_u64(s, layout::RECORDS_COUNT_OFFSET, (start + total) as u64);
+}
+
+// Sets a slot's record in the top to a value and the installed number.
+pub fn settle_top(s: &mut [u8], place: Found, slot: Slot, value: U256)
+    requires { ⌜ Placed place slot (now s) ⌝ }
+    ensures { λ _. ⌜ now (s .exit) ≡ overlay (topped (store-of (now (s .entry)) .config) (generation-of (now (s .entry))) (settle (generation-of (now (s .entry)) .anchor .number) slot value (generation-of (now (s .entry)) .top))) (now (s .entry)) ⌝ }
+{
+    let number = layers::installed_number(s);
+    settle_used(s, place, slot, value, number);
+}

@@ -1,0 +1,4 @@
+-- What the calls come to.
+pub mod Turned
+pub mod Said
+pub mod Guards
