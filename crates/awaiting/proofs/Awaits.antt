@@ -10,7 +10,7 @@ use lib.ListN.{length, drop, drop-of-length-le, length-map}
 use lib.Seq.{drop-drop, drop-cons}
 use Rattle.layout.specs.Layout.{awaiting-size, awaiting-width, slot-width, taken-index, taken-offset, waiters-index, waiters-offset}
 use Rattle.model.specs.Numbers.{num}
-use Rattle.model.specs.Layers.{use-only}
+use Rattle.model.specs.Contents.{use-only}
 use Rattle.model.specs.Reads.{Pending}
 use Rattle.records.specs.Records.{record-at}
 use Rattle.words.specs.Parts.{part}

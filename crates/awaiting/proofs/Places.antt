@@ -10,7 +10,8 @@ use Rattle.model.specs.declared.delta_snapshot.Slot.{Slot}
 use Rattle.model.specs.Slots.{slot-eqb, slot-ltb}
 use Rattle.model.specs.Reads.{Pending, waiters-of, is-awaiting, is-taken, join, remove-pending}
 use Rattle.model.proofs.SlotLaws.{split, and-left, and-right, slot-eqb-true, slot-eqb-sym, slot-ltb-trans, slot-ltb-eqb}
-use Rattle.model.specs.Layers.{use-only, Layer}
+use Rattle.model.specs.Contents.{use-only}
+use Rattle.model.specs.Layers.{Layer}
 use Rattle.image.specs.WellFormed.{rising-from, rising, slot-fits, pending-ok-from, pending-ok}
 use Rattle.image.specs.Image.{read-pending}
 use Rattle.records.specs.declared.Found.{Found}

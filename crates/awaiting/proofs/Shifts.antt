@@ -1,7 +1,7 @@
 -- An entry put between others and one taken away, in the steps of the code.
 use Prim.Native.Nat.{ℕ, _+_, _-_, _*_, _≤_, _<_}
 use mathlib.Core.Path.{_≡_, refl, sym, ap, _∙_}
-use mathlib.Core.List.{List, [], _∷_, _++_, append-assoc, append-nil}
+use mathlib.Core.List.{List, [], _∷_, _++_, append-assoc}
 use native.Mathlib.Omega.{arith}
 use lib.ListN.{length, take, drop, replicate, length-append, length-drop, length-replicate}
 use lib.Seq.{length-take-le}
@@ -9,7 +9,6 @@ use Rattle.layout.specs.Layout.{awaiting-size, second-waiters-offset, taken-off
 use Rattle.model.specs.declared.delta_snapshot.Slot.{Slot}
 use Rattle.model.specs.Numbers.{be}
 use Rattle.model.specs.Slots.{slot-words}
-use Rattle.model.proofs.NumberLaws.{length-be}
 use Rattle.words.specs.Parts.{part, placed}
 use Rattle.words.specs.Moved.{moved}
 use Rattle.words.proofs.Moves.{gap-filled}

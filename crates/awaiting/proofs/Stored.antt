@@ -17,7 +17,8 @@ use Rattle.words.proofs.Places.{placed-field}
 use Rattle.image.specs.Image.{flag, bytes-of, words-of, pending-words, all-pending-words, read-pending, entries}
 use Rattle.image.specs.WellFormed.{pending-ok, all-waiters}
 use Rattle.image.specs.Area.{pending-of, with-pending}
-use Rattle.image.proofs.Words.{Fit, length-bytes-of, words-of-bytes}
+use Rattle.model.proofs.WordLaws.{Fit}
+use Rattle.image.proofs.Words.{length-bytes-of, words-of-bytes}
 use Rattle.image.proofs.Entries.{length-pending, read-pendings, fit-pendings}
 use Rattle.records.proofs.Written.{bytes-append}
 use Rattle.awaiting.specs.Awaiting.{Rising, Ready, Holds}

@@ -4,15 +4,15 @@ use model::delta_snapshot::Slot;
 use model::storage_memo::Address;
 use model::storage_memo::ReadAnchor;
 use model::storage_memo::U256;
-use unchecked_advance::AdvanceReport;
-use unchecked_advance::Advanced;
-use unchecked_calls::Looked;
-use unchecked_calls::PutAnswer;
+use store::AdvanceReply;
+use store::DeltaReport;
+use store::LookReply;
+use store::PutReply;
 ghost use mathlib.Core.Path.{_≡_};
 ghost use mathlib.Core.Bool.{true};
 ghost use Prim.Native.Nat.{_+_, _≤_};
 ghost use lib.ListN.{length};
-ghost use Rattle.model.specs.Layers.{is-some};
+ghost use Rattle.model.specs.Contents.{is-some};
 ghost use Rattle.image.specs.Image.{decode};
 ghost use Rattle.image.specs.Lent.{IsStore};
 
@@ -51,19 +51,19 @@ fn slot_of(args: &[u8]) -> Slot
 }
 
 // A refusal's number, 100 for none, 101 for a value.
-fn looked(r: Looked) -> u64 {
+fn looked(r: LookReply) -> u64 {
     match r {
-        Looked::No(n) => n,
-        Looked::Nothing => 100,
-        Looked::Value(_) => 101,
+        LookReply::Refused(n) => n,
+        LookReply::Nothing => 100,
+        LookReply::Value(_) => 101,
     }
 }
 
 // A refusal's number, or 100.
-fn stored(r: PutAnswer) -> u64 {
+fn stored(r: PutReply) -> u64 {
     match r {
-        PutAnswer::No(n) => n,
-        PutAnswer::Stored => 100,
+        PutReply::Refused(n) => n,
+        PutReply::Stored => 100,
     }
 }
 
@@ -129,7 +129,7 @@ pub extern "C" fn bench_known_put(s: &mut [u8], args: &[u8]) -> u64
 }
 
 // An advance's counts, as words.
-fn write_counts(counts: &mut [u8], report: AdvanceReport)
+fn write_counts(counts: &mut [u8], report: DeltaReport)
     requires { ⌜ 64 ≤ length (now counts) ⌝ }
 {
     words::write_u64(counts, 0, report.writes.applied);
@@ -165,8 +165,8 @@ pub extern "C" fn bench_known_advance(
     let parent_hash = u256_at(args, 104);
     let done = unchecked_advance::advance(s, child, parent_hash, 0, addresses, writes, work, out);
     match done {
-        Advanced::No(n) => n,
-        Advanced::Done(report) => {
+        AdvanceReply::Refused(n) => n,
+        AdvanceReply::Advanced(report) => {
             write_counts(counts, report);
             100
         }

@@ -10,16 +10,15 @@ use Rattle.model.specs.Store.{Report, opened, anchor-same, anchor-fresh, advanc
 use Rattle.model.specs.Refusals.{Answer, refuse, ok}
 use Rattle.model.proofs.EntryLaws.{SlotFits, Each, slots-back}
 use Rattle.image.specs.Output.{output-after}
-use Rattle.unchecked_advance.specs.declared.Advanced.{Advanced}
-use Rattle.unchecked_advance.specs.declared.Advanced.the-variants as advance
-use Rattle.unchecked_advance.specs.Reports.{advanced-answer}
-use Rattle.unchecked_reads.specs.declared.TakeAnswer.{TakeAnswer}
-use Rattle.unchecked_reads.specs.declared.TakeAnswer.the-variants as take
-use Rattle.unchecked_reads.specs.Answers.{take-answer}
+use Rattle.replies.specs.declared.AdvanceReply.{AdvanceReply}
+use Rattle.replies.specs.declared.AdvanceReply.the-variants as advance
+use Rattle.replies.specs.Replies.{advance-reply, take-reply}
+use Rattle.replies.specs.declared.TakeReply.{TakeReply}
+use Rattle.replies.specs.declared.TakeReply.the-variants as take
 use Rattle.call_list.specs.Listing.{ascii, line, decimals, slot-lines, answer-lines}
 use Rattle.listing.proofs.Lengths.{delta-line-counts, refusal-line-length, counts-line-length, take-line-length, report-lines-length}
 use Rattle.call_answers.specs.declared.CallAnswer.{CallAnswer}
-use Rattle.call_answers.specs.declared.CallAnswer.the-variants.{No, Open, AnchorSame, AnchorFresh, Advance, Value, Nothing, Put, Wait, Take, Answer as Answered}
+use Rattle.call_answers.specs.declared.CallAnswer.the-variants.{Refused, Open, AnchorSame, AnchorFresh, Advance, Value, Nothing, Put, Wait, Take, Answer as Answered}
 use Rattle.call_answers.specs.Answers.{call-answer, take-as, advance-as, counts-in, slots-listed, lines-of}
 use Rattle.call_answers.proofs.Slots.{length-first, length-lines}
 
@@ -81,7 +80,7 @@ lines-are (ok (answered m e w)) b f = refl
 
 -- One line of at most 197 bytes, and one of 110 for each slot listed.
 pub lines-length : (r : CallAnswer) (entries : List ℕ) → length (lines-of r entries) ≤ 197 + 110 * slots-listed r
-lines-length (No n) b = omega (arith, refusal-line-length n)
+lines-length (Refused n) b = omega (arith, refusal-line-length n)
 lines-length Open b = report-lines-length opened
 lines-length AnchorSame b = report-lines-length anchor-same
 lines-length AnchorFresh b = report-lines-length anchor-fresh
@@ -95,12 +94,12 @@ lines-length (Answered m e w) b = report-lines-length (answered m e w)
 
 -- A take's and an advance's answer, from what they mean ----------------------------------------------------
 
-pub take-means : (t : TakeAnswer) (out : List ℕ) → take-as t ≡ call-answer (take-answer t out)
-take-means (take.No n) out = refl
+pub take-means : (t : TakeReply) (out : List ℕ) → take-as t ≡ call-answer (take-reply t out)
+take-means (take.Refused n) out = refl
 take-means (take.Listed n) out = ap Take (sym (length-first n out))
 
-pub advance-means : (t : Advanced) (out : List ℕ) → advance-as t ≡ call-answer (advanced-answer t out)
-advance-means (advance.No n) out = refl
-advance-means (advance.Done r) out =
+pub advance-means : (t : AdvanceReply) (out : List ℕ) → advance-as t ≡ call-answer (advance-reply t out)
+advance-means (advance.Refused n) out = refl
+advance-means (advance.Advanced r) out =
     let n = length-first (r .writes .applied) out in
     λ i. Advance (record { outcome = r .outcome; writes = record { applied = sym n i; overwritten = r .writes .overwritten; skipped = r .writes .skipped }; held = r .held; live = r .live; compaction = r .compaction })

@@ -2,33 +2,29 @@
 use Prim.Native.Nat.{ℕ}
 use mathlib.Core.List.{List, [], _∷_, _++_}
 use lib.ListN.{length}
-use Rattle.model.specs.Advance.{AppliedWrites, CompactionReport, DeltaReport}
+use Rattle.model.specs.Advance as model
 use Rattle.model.specs.Entries.{first-slots}
 use Rattle.model.specs.Store.{Report, opened, anchor-same, anchor-fresh, advanced, value, no-value, stored, waiting, listed, answered}
 use Rattle.model.specs.Refusals.{Answer, refuse, ok}
-use Rattle.unchecked_advance.specs.declared.AdvanceReport.{AdvanceReport}
-use Rattle.unchecked_advance.specs.declared.Advanced.{Advanced}
-use Rattle.unchecked_advance.specs.declared.Advanced.the-variants as advance
-use Rattle.seal.specs.declared.CompactionCounts.{CompactionCounts}
-use Rattle.seed.specs.declared.WriteCounts.{WriteCounts}
-use Rattle.unchecked_reads.specs.declared.TakeAnswer.{TakeAnswer}
-use Rattle.unchecked_reads.specs.declared.TakeAnswer.the-variants as take
+use Rattle.replies.specs.declared.DeltaReport.{DeltaReport}
+use Rattle.replies.specs.declared.AdvanceReply.{AdvanceReply}
+use Rattle.replies.specs.declared.AdvanceReply.the-variants as advance
+use Rattle.replies.specs.declared.WriteCounts.{WriteCounts}
+use Rattle.replies.specs.declared.TakeReply.{TakeReply}
+use Rattle.replies.specs.declared.TakeReply.the-variants as take
 use Rattle.listing.specs.declared.AdvanceCounts.{AdvanceCounts}
 use Rattle.listing.specs.Lines.{counts-line}
 use Rattle.call_list.specs.Listing.{ascii, line, decimals, slot-lines, refusal-line, report-lines}
 use Rattle.call_answers.specs.declared.CallAnswer.{CallAnswer}
-use Rattle.call_answers.specs.declared.CallAnswer.the-variants.{No, Open, AnchorSame, AnchorFresh, Advance, Value, Nothing, Put, Wait, Take, Answer as Answered}
+use Rattle.call_answers.specs.declared.CallAnswer.the-variants.{Refused, Open, AnchorSame, AnchorFresh, Advance, Value, Nothing, Put, Wait, Take, Answer as Answered}
 
--- The code's counts for a report of writes and for a fold's, and its report for an advance's.
-abbrev pub counts-of-writes : AppliedWrites → WriteCounts
+-- The code's counts for a report of writes, and its report for an advance's.
+abbrev pub counts-of-writes : model.AppliedWrites → WriteCounts
 counts-of-writes t = record { applied = length (t .applied); overwritten = t .overwritten; skipped = t .skipped }
 
-abbrev pub counts-of-fold : CompactionReport → CompactionCounts
-counts-of-fold c = record { merged = c .merged; left = c .left; dropped = c .dropped }
-
-abbrev pub report-for : DeltaReport → AdvanceReport
+abbrev pub report-for : model.DeltaReport → DeltaReport
 report-for d =
-    record { outcome = d .outcome; writes = counts-of-writes (d .writes); held = d .held; live = d .live; compaction = counts-of-fold (d .compaction) }
+    record { outcome = d .outcome; writes = counts-of-writes (d .writes); held = d .held; live = d .live; compaction = d .compaction }
 
 -- The code's answer for the model's.
 abbrev pub call-report : Report → CallAnswer
@@ -44,20 +40,20 @@ call-report (listed ss) = Take (length ss)
 call-report (answered m e w) = Answered m e w
 
 abbrev pub call-answer : Answer → CallAnswer
-call-answer (refuse n) = No n
+call-answer (refuse n) = Refused n
 call-answer (ok r) = call-report r
 
 -- The same answer of a take, and of an advance.
-abbrev pub take-as : TakeAnswer → CallAnswer
-take-as (take.No n) = No n
+abbrev pub take-as : TakeReply → CallAnswer
+take-as (take.Refused n) = Refused n
 take-as (take.Listed n) = Take n
 
-abbrev pub advance-as : Advanced → CallAnswer
-advance-as (advance.No n) = No n
-advance-as (advance.Done r) = Advance r
+abbrev pub advance-as : AdvanceReply → CallAnswer
+advance-as (advance.Refused n) = Refused n
+advance-as (advance.Advanced r) = Advance r
 
 -- The counts of an advance's report, as its line has them.
-abbrev pub counts-in : AdvanceReport → AdvanceCounts
+abbrev pub counts-in : DeltaReport → AdvanceCounts
 counts-in r =
     record {
       applied = r .writes .applied;
@@ -72,7 +68,7 @@ counts-in r =
 
 -- The slots that an answer lists.
 abbrev pub slots-listed : CallAnswer → ℕ
-slots-listed (No n) = 0
+slots-listed (Refused n) = 0
 slots-listed Open = 0
 slots-listed AnchorSame = 0
 slots-listed AnchorFresh = 0
@@ -90,7 +86,7 @@ take-lines n b = line (ascii "take") (decimals (n ∷ [])) ++ slot-lines (first-
 
 -- The lines of an answer, with the output that has a take's slots.
 abbrev pub lines-of : CallAnswer → List ℕ → List ℕ
-lines-of (No n) b = refusal-line n
+lines-of (Refused n) b = refusal-line n
 lines-of Open b = report-lines opened
 lines-of AnchorSame b = report-lines anchor-same
 lines-of AnchorFresh b = report-lines anchor-fresh

@@ -3,123 +3,130 @@ ghost use mathlib.Core.Path.{_≡_};
 ghost use Prim.Native.Nat.{_+_, _*_, _≤_};
 ghost use lib.ListN.{length};
 ghost use Rattle.model.specs.Entries.{first-slots};
-ghost use Rattle.unchecked_calls.specs.Answers.{opened-answer, installed-answer, looked-answer, put-answer};
-ghost use Rattle.unchecked_reads.specs.Answers.{read-answer, answered-answer};
+ghost use Rattle.replies.specs.Replies.{open-reply, install-reply, look-reply, put-reply, read-reply, answer-reply};
 ghost use Rattle.call_list.specs.Listing.{slot-lines};
 ghost use Rattle.digits.specs.Written.{Written};
 ghost use Rattle.listing.specs.Lines.{counts-line};
 ghost use Rattle.call_answers.specs.Answers.{call-answer, take-as, advance-as, counts-in, slots-listed, take-lines, lines-of};
 use listing::AdvanceCounts;
 use model::storage_memo::U256;
-use unchecked_advance::AdvanceReport;
-use unchecked_advance::Advanced;
-use unchecked_calls::Installed;
-use unchecked_calls::Looked;
-use unchecked_calls::Opened;
-use unchecked_calls::PutAnswer;
-use unchecked_reads::AnswerAnswer;
-use unchecked_reads::ReadAnswer;
-use unchecked_reads::TakeAnswer;
+use replies::AdvanceReply;
+use replies::AnswerReply;
+use replies::DeltaReport;
+use replies::InstallReply;
+use replies::LookReply;
+use replies::OpenReply;
+use replies::PutReply;
+use replies::ReadReply;
+use replies::TakeReply;
 
 // A call's answer: a refusal's number, or what it reports. The slots that a take lists are in its output.
 pub enum CallAnswer {
-    No(u64),
+    Refused(u64),
     Open,
     AnchorSame,
     AnchorFresh,
-    Advance(AdvanceReport),
+    Advance(DeltaReport),
     Value(U256),
     Nothing,
     Put,
     Wait(u64),
     Take(usize),
-    Answer(u64, u64, u64),
+    Answer {
+        members: u64,
+        errors: u64,
+        woken: u64,
+    },
 }
 
 // An open's answer.
-pub fn of_open(a: Opened) -> CallAnswer
-    ensures { λ r. ⌜ r ≡ call-answer (opened-answer a) ⌝ }
+pub fn of_open(a: OpenReply) -> CallAnswer
+    ensures { λ r. ⌜ r ≡ call-answer (open-reply a) ⌝ }
 {
     match a {
-        Opened::No(n) => CallAnswer::No(n),
-        Opened::Open => CallAnswer::Open,
+        OpenReply::Refused(n) => CallAnswer::Refused(n),
+        OpenReply::Opened => CallAnswer::Open,
     }
 }
 
 // An install's answer.
-pub fn of_install(a: Installed) -> CallAnswer
-    ensures { λ r. ⌜ r ≡ call-answer (installed-answer a) ⌝ }
+pub fn of_install(a: InstallReply) -> CallAnswer
+    ensures { λ r. ⌜ r ≡ call-answer (install-reply a) ⌝ }
 {
     match a {
-        Installed::No(n) => CallAnswer::No(n),
-        Installed::Same => CallAnswer::AnchorSame,
-        Installed::Fresh => CallAnswer::AnchorFresh,
+        InstallReply::Refused(n) => CallAnswer::Refused(n),
+        InstallReply::Same => CallAnswer::AnchorSame,
+        InstallReply::Fresh => CallAnswer::AnchorFresh,
     }
 }
 
 // A look's or a get's answer.
-pub fn of_look(a: Looked) -> CallAnswer
-    ensures { λ r. ⌜ r ≡ call-answer (looked-answer a) ⌝ }
+pub fn of_look(a: LookReply) -> CallAnswer
+    ensures { λ r. ⌜ r ≡ call-answer (look-reply a) ⌝ }
 {
     match a {
-        Looked::No(n) => CallAnswer::No(n),
-        Looked::Nothing => CallAnswer::Nothing,
-        Looked::Value(v) => CallAnswer::Value(v),
+        LookReply::Refused(n) => CallAnswer::Refused(n),
+        LookReply::Nothing => CallAnswer::Nothing,
+        LookReply::Value(v) => CallAnswer::Value(v),
     }
 }
 
 // A put's answer.
-pub fn of_put(a: PutAnswer) -> CallAnswer
-    ensures { λ r. ⌜ r ≡ call-answer (put-answer a) ⌝ }
+pub fn of_put(a: PutReply) -> CallAnswer
+    ensures { λ r. ⌜ r ≡ call-answer (put-reply a) ⌝ }
 {
     match a {
-        PutAnswer::No(n) => CallAnswer::No(n),
-        PutAnswer::Stored => CallAnswer::Put,
+        PutReply::Refused(n) => CallAnswer::Refused(n),
+        PutReply::Stored => CallAnswer::Put,
     }
 }
 
 // A read's answer.
-pub fn of_read(a: ReadAnswer) -> CallAnswer
-    ensures { λ r. ⌜ r ≡ call-answer (read-answer a) ⌝ }
+pub fn of_read(a: ReadReply) -> CallAnswer
+    ensures { λ r. ⌜ r ≡ call-answer (read-reply a) ⌝ }
 {
     match a {
-        ReadAnswer::No(n) => CallAnswer::No(n),
-        ReadAnswer::Value(v) => CallAnswer::Value(v),
-        ReadAnswer::Wait(n) => CallAnswer::Wait(n),
+        ReadReply::Refused(n) => CallAnswer::Refused(n),
+        ReadReply::Value(v) => CallAnswer::Value(v),
+        ReadReply::Waiting(n) => CallAnswer::Wait(n),
     }
 }
 
 // A take's answer.
-pub fn of_take(a: TakeAnswer) -> CallAnswer
+pub fn of_take(a: TakeReply) -> CallAnswer
     ensures { λ r. ⌜ r ≡ take-as a ⌝ }
 {
     match a {
-        TakeAnswer::No(n) => CallAnswer::No(n),
-        TakeAnswer::Listed(n) => CallAnswer::Take(n),
+        TakeReply::Refused(n) => CallAnswer::Refused(n),
+        TakeReply::Listed(n) => CallAnswer::Take(n as usize),
     }
 }
 
 // An answer's answer.
-pub fn of_answer(a: AnswerAnswer) -> CallAnswer
-    ensures { λ r. ⌜ r ≡ call-answer (answered-answer a) ⌝ }
+pub fn of_answer(a: AnswerReply) -> CallAnswer
+    ensures { λ r. ⌜ r ≡ call-answer (answer-reply a) ⌝ }
 {
     match a {
-        AnswerAnswer::No(n) => CallAnswer::No(n),
-        AnswerAnswer::Answered(members, errors, woken) => CallAnswer::Answer(
+        AnswerReply::Refused(n) => CallAnswer::Refused(n),
+        AnswerReply::Answered {
             members,
             errors,
             woken,
-        ),
+        } => CallAnswer::Answer {
+            members,
+            errors,
+            woken,
+        },
     }
 }
 
 // An advance's answer.
-pub fn of_advance(a: Advanced) -> CallAnswer
+pub fn of_advance(a: AdvanceReply) -> CallAnswer
     ensures { λ r. ⌜ r ≡ advance-as a ⌝ }
 {
     match a {
-        Advanced::No(n) => CallAnswer::No(n),
-        Advanced::Done(report) => CallAnswer::Advance(report),
+        AdvanceReply::Refused(n) => CallAnswer::Refused(n),
+        AdvanceReply::Advanced(report) => CallAnswer::Advance(report),
     }
 }
 
@@ -147,7 +154,7 @@ fn take_lines(out: &mut [u8], at: usize, entries: &[u8], n: usize) -> usize
 }
 
 // The line of an advance.
-fn advance_line(out: &mut [u8], at: usize, report: AdvanceReport) -> usize
+fn advance_line(out: &mut [u8], at: usize, report: DeltaReport) -> usize
     requires { ⌜ at + 197 ≤ length (now out) ⌝ }
     ensures { λ r. ⌜ Written at (counts-line (report .outcome) (counts-in report)) (now (out .entry)) (now (out .exit)) r ⌝ }
 {
@@ -173,7 +180,7 @@ pub fn answer_lines(out: &mut [u8], at: usize, a: CallAnswer, entries: &[u8]) ->
     ensures { λ r. ⌜ Written at (lines-of a (now (entries .entry))) (now (out .entry)) (now (out .exit)) r ⌝ }
 {
     match a {
-        CallAnswer::No(n) => listing::refusal_line(out, at, n),
+        CallAnswer::Refused(n) => listing::refusal_line(out, at, n),
         CallAnswer::Open => listing::open_line(out, at),
         CallAnswer::AnchorSame => listing::anchor_same_line(out, at),
         CallAnswer::AnchorFresh => listing::anchor_fresh_line(out, at),
@@ -183,12 +190,10 @@ pub fn answer_lines(out: &mut [u8], at: usize, a: CallAnswer, entries: &[u8]) ->
         CallAnswer::Put => listing::put_line(out, at),
         CallAnswer::Wait(n) => listing::wait_line(out, at, n),
         CallAnswer::Take(n) => take_lines(out, at, entries, n),
-        CallAnswer::Answer(members, errors, woken) => listing::answer_line(
-            out,
-            at,
+        CallAnswer::Answer {
             members,
             errors,
             woken,
-        ),
+        } => listing::answer_line(out, at, members, errors, woken),
     }
 }

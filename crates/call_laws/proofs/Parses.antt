@@ -11,17 +11,19 @@ use lib.Dec.{eqb, leb, ltb, lit<}
 use lib.ListN.{length, drop, length-drop}
 use Rattle.model.specs.declared.delta_snapshot.Retention.the-variants.{IdleBlocks}
 use Rattle.model.specs.Numbers.{Bytes}
-use Rattle.model.specs.Slots.{identified}
+use Rattle.model.specs.Slots.{identified, fits-64, u256-fits}
 use Rattle.model.specs.Entries.{u256-at, address-of, slot-of, write-of}
 use Rattle.model.specs.Advance.{Write}
 use Rattle.model.specs.Reads.{Member}
 use Rattle.model.proofs.SlotLaws.{and-left, and-right, and-intro}
-use Rattle.image.specs.WellFormed.{fits-64, u256-fits, slot-fits, anchor-fits, retention-fits}
-use Rattle.image.specs.Claims.{outcome-fits, writes-fit, members-fit, anchored-fits, call-fits}
+use Rattle.image.specs.WellFormed.{slot-fits, anchor-fits, retention-fits}
+use Rattle.model.specs.Contents.{value-fits}
+use Rattle.image.specs.Claims.{writes-fit, members-fit, anchored-fits, call-fits}
 use Rattle.model.proofs.EntryLaws.{bytes-tail, bytes-drop, bytes-take}
 use Rattle.image.proofs.EntriesFit.{u256-at-fits, slot-of-fits}
-use Rattle.call_list.specs.Listed.{OpenLimits, Prepared, look, get, put, read, AnchoredCall, on-slot, answer, answer-failed, ListedCall, open-with, install, advance, at-anchor}
-use Rattle.call_list.specs.Meaning.{anchored-meaning, meaning}
+use Rattle.model.specs.Store.{look, get, put, read, AnchoredCall, on-slot, answer, answer-failed, Prepared, install, advance, at-anchor}
+use Rattle.call_list.specs.Listed.{OpenLimits, ListedCall, open-with, on-store}
+use Rattle.call_list.specs.Meaning.{meaning}
 use Rattle.call_list.specs.CallList.{Parsed, parsed, fault, then, number-from, parse-number, parse-bytes, parse-form, parse-entries, parse-list, parse-u256, parse-address, parse-slot, parse-write, parse-outcome, parse-member, parse-hash, parse-anchor, parse-retention, parse-limits, parse-open, parse-install, parse-prepared, parse-advance, parse-anchored, parse-with-slot, parse-put, parse-take, parse-round, parse-answer, CodeEntry, entry, code-table, parse-of, parse-call}
 
 -- Parsers in general ----------------------------------------------------------------------------------
@@ -142,12 +144,12 @@ write-fits w = slot-fits (w .slot) && u256-fits (w .value)
 good-write : Good (λ w. write-fits w ≡ true) parse-write
 good-write = good-map write-of (good-bytes 84) (λ b f. and-intro _ _ (slot-of-fits b f) (u256-at-fits 52 b f))
 
-good-outcome : (f : Bool) → Good (λ o. outcome-fits o ≡ true) (parse-outcome f)
+good-outcome : (f : Bool) → Good (λ o. value-fits o ≡ true) (parse-outcome f)
 good-outcome false = good-done refl
 good-outcome true = good-map some good-u256 (λ v q. q)
 
 abbrev member-fits : Member → Bool
-member-fits m = slot-fits (m .slot) && outcome-fits (m .outcome)
+member-fits m = slot-fits (m .slot) && value-fits (m .outcome)
 
 good-member : Good (λ m. member-fits m ≡ true) parse-member
 good-member = good-then good-slot (λ s p. good-then good-form (λ f t. good-map (λ o. record { slot = s; outcome = o }) (good-outcome f) (λ o q. and-intro _ _ p q)))
@@ -177,7 +179,7 @@ good-writes = good-then good-number (λ n p. good-entries (λ w. write-fits w �
 
 good-members : Good (λ ms. members-fit ms ≡ true) (parse-list parse-member)
 unfolding members-fit
-good-members = good-then good-number (λ n p. good-entries (λ m. member-fits m ≡ true) (λ ms. members-fit ms ≡ true) good-member refl (λ m ms q u. fits-more (slot-fits (m .slot)) (outcome-fits (m .outcome)) (members-fit ms) q u) n)
+good-members = good-then good-number (λ n p. good-entries (λ m. member-fits m ≡ true) (λ ms. members-fit ms ≡ true) good-member refl (λ m ms q u. fits-more (slot-fits (m .slot)) (value-fits (m .outcome)) (members-fit ms) q u) n)
 
 -- Calls -----------------------------------------------------------------------------------------------
 
@@ -197,7 +199,7 @@ good-open : Good CallFits parse-open
 good-open = good-then good-number (λ c p. good-then good-form (λ f t. good-limits c f))
 
 good-install : Good CallFits parse-install
-good-install = good-map install good-anchor (λ a q d h. q)
+good-install = good-map (λ a. on-store (install a)) good-anchor (λ a q d h. q)
 
 good-prepared : (k : ℕ) → Good (λ p. writes-fit (p .writes) ≡ true) (parse-prepared k)
 good-prepared k = good-then good-addresses (λ relevance v. good-map (λ ws. record { skip = k; relevance = relevance; writes = ws }) good-writes (λ ws q. q))
@@ -205,14 +207,14 @@ good-prepared k = good-then good-addresses (λ relevance v. good-map (λ ws. rec
 good-advance : Good CallFits parse-advance
 good-advance =
     good-then good-anchor (λ child a. good-then good-u256 (λ h t. good-then good-number (λ k u.
-    good-map (λ (p : Prepared). advance child h p) (good-prepared k) (λ p q d i. and-intro _ _ a q))))
+    good-map (λ (p : Prepared). on-store (advance child h p)) (good-prepared k) (λ p q d i. and-intro _ _ a q))))
 
 -- Calls with an anchor first.
 abbrev AnchoredFits : AnchoredCall → Type 0
-AnchoredFits c = anchored-fits (anchored-meaning c) ≡ true
+AnchoredFits c = anchored-fits c ≡ true
 
 good-anchored : {f : List ℕ → Parsed AnchoredCall} → Good AnchoredFits f → Good CallFits (parse-anchored f)
-good-anchored u = good-then good-anchor (λ a p. good-map (at-anchor a) u (λ c q d h. q))
+good-anchored u = good-then good-anchor (λ a p. good-map (λ c. on-store (at-anchor a c)) u (λ c q d h. q))
 
 good-look : Good AnchoredFits (parse-with-slot look)
 good-look = good-map (λ s. on-slot (look s)) good-slot (λ s q. q)

@@ -15,7 +15,8 @@ use Rattle.model.specs.Slots.{at, identified}
 use Rattle.model.specs.Entries.{u256-at, address-of, slot-of, write-of}
 use Rattle.model.specs.Advance.{Write}
 use Rattle.model.specs.Reads.{Member}
-use Rattle.call_list.specs.Listed.{Prepared, SlotCall, look, get, put, read, AnchoredCall, on-slot, take as take-call, answer, answer-failed, ListedCall, open-default, open-with, install, advance, at-anchor}
+use Rattle.model.specs.Store.{SlotCall, look, get, put, read, AnchoredCall, on-slot, take as take-call, answer, answer-failed, Prepared, install, advance, at-anchor}
+use Rattle.call_list.specs.Listed.{ListedCall, open-default, open-with, on-store}
 
 -- What reading gives: a thing and the bytes after it; or the refusal of the fault whose byte comes first, and the bytes from that one on, which are none where the list ends.
 pub data Parsed (A : Type 0) : Type 0 where
@@ -105,7 +106,7 @@ parse-open l = then (parse-number l) (λ c r. then (parse-form r) (λ f q. parse
 
 -- 2 install.
 abbrev pub parse-install : List ℕ → Parsed ListedCall
-parse-install l = then (parse-anchor l) (λ a r. parsed (install a) r)
+parse-install l = then (parse-anchor l) (λ a r. parsed (on-store (install a)) r)
 
 -- What was prepared for an advance, after its skip: count and addresses, count and writes.
 abbrev pub parse-prepared : ℕ → List ℕ → Parsed Prepared
@@ -115,11 +116,11 @@ parse-prepared k l = then (parse-list parse-address l) (λ relevance r. then (pa
 abbrev pub parse-advance : List ℕ → Parsed ListedCall
 parse-advance l =
     then (parse-anchor l) (λ child l1. then (parse-u256 l1) (λ h l2. then (parse-number l2) (λ k l3.
-    then (parse-prepared k l3) (λ p l4. parsed (advance child h p) l4))))
+    then (parse-prepared k l3) (λ p l4. parsed (on-store (advance child h p)) l4))))
 
 -- 4 to 9: an anchor first, then the rest of the call.
 abbrev pub parse-anchored : (List ℕ → Parsed AnchoredCall) → List ℕ → Parsed ListedCall
-parse-anchored f l = then (parse-anchor l) (λ a r. then (f r) (λ c q. parsed (at-anchor a c) q))
+parse-anchored f l = then (parse-anchor l) (λ a r. then (f r) (λ c q. parsed (on-store (at-anchor a c)) q))
 
 -- 4 look, 5 get, 7 read (slot).
 abbrev pub parse-with-slot : (Slot → SlotCall) → List ℕ → Parsed AnchoredCall

@@ -11,7 +11,8 @@ use Rattle.model.specs.declared.storage_memo.U256.{U256}
 use Rattle.model.specs.declared.delta_snapshot.Slot.{Slot}
 use Rattle.model.specs.declared.read_hub.CarryOutcome.{CarryOutcome}
 use Rattle.model.specs.declared.read_hub.CarryOutcome.the-variants.{AlreadyCurrent, Carried, Cold}
-use Rattle.model.specs.Advance.{lineage-number, skip-number, AppliedWrites, CompactionReport, DeltaReport}
+use Rattle.model.specs.declared.delta_snapshot.CompactionReport.{CompactionReport}
+use Rattle.model.specs.Advance.{lineage-number, skip-number, AppliedWrites, DeltaReport}
 use Rattle.model.specs.Store.{Report, opened, anchor-same, anchor-fresh, advanced, value, no-value, stored, waiting, listed, answered}
 use Rattle.model.specs.Refusals.{Answer, refuse, ok}
 

@@ -9,8 +9,8 @@ use native.Mathlib.Omega.{arith}
 use borrow.Author.Tests.{leb-true, leb-false, le-ltb}
 use lib.ListN.{length, take, length-take}
 use Rattle.reader.specs.declared.Cursor.{Cursor}
-use Rattle.call_run.specs.declared.Ran.{Ran}
-use Rattle.call_run.specs.declared.Ran.the-variants.{No, Listed, Broken}
+use Rattle.call_run.specs.declared.RunReply.{RunReply}
+use Rattle.call_run.specs.declared.RunReply.the-variants.{Refused, Listed, Broken}
 use Rattle.call_progress.specs.Progress.{call-lines}
 use Rattle.call_run.specs.Run.{too-short, RunTo, RanAs}
 use Rattle.call_run.specs.Program.{last-run, broken-run}
@@ -19,11 +19,11 @@ use Rattle.call_run.proofs.Ends.{ran-forward}
 use Rattle.call_print.specs.declared.Part.{Part}
 use Rattle.call_print.specs.Part.{PartAs}
 
-module _ (w e : ℕ) (list : List ℕ) (from : ℕ) (members before out after out-after : List ℕ) (r : Ran) (h : RanAs r w e list from members before out after out-after) where
+module _ (w e : ℕ) (list : List ℕ) (from : ℕ) (members before out after out-after : List ℕ) (r : RunReply) (h : RanAs r w e list from members before out after out-after) where
   -- A run that went on.
   pub part-listed : (next : Cursor) (written : ℕ) (ended : Bool) → r ≡ Listed next written ended → PartAs (record { next = next .at; written = written; last = ended }) w e list from before out after out-after
   part-listed next written ended q =
-      let k : RanAs (Listed next written ended) w e list from members before out after out-after = subst (λ (x : Ran). RanAs x w e list from members before out after out-after) q h in
+      let k : RanAs (Listed next written ended) w e list from members before out after out-after = subst (λ (x : RunReply). RanAs x w e list from members before out after out-after) q h in
       let u : RunTo w e list from (next .at) none written before out after out-after = k .1 in
       record {
         last-is = λ x. last-run u (leb-true (length list) (next .at) (sym (k .2) ∙ x));
@@ -34,7 +34,7 @@ module _ (w e : ℕ) (list : List ℕ) (from : ℕ) (members before out after ou
   -- A run that a fault ended.
   pub part-broken : (n : ℕ) (place : Cursor) (written : ℕ) → r ≡ Broken n place written → PartAs (record { next = from; written = written; last = true }) w e list from before out after out-after
   part-broken n place written q =
-      let k : RanAs (Broken n place written) w e list from members before out after out-after = subst (λ (x : Ran). RanAs x w e list from members before out after out-after) q h in
+      let k : RanAs (Broken n place written) w e list from members before out after out-after = subst (λ (x : RunReply). RanAs x w e list from members before out after out-after) q h in
       let u = k .1 .1 in
       record {
         last-is = λ x. broken-run u (k .1 .2);
@@ -43,9 +43,9 @@ module _ (w e : ℕ) (list : List ℕ) (from : ℕ) (members before out after ou
       }
 
   -- A run is not refused where the areas are long enough.
-  pub part-refused : (n : ℕ) (p : Part) → r ≡ No n → too-short list members out ≡ false → PartAs p w e list from before out after out-after
+  pub part-refused : (n : ℕ) (p : Part) → r ≡ Refused n → too-short list members out ≡ false → PartAs p w e list from before out after out-after
   part-refused n p q g =
-      let k : RanAs (No n) w e list from members before out after out-after = subst (λ (x : Ran). RanAs x w e list from members before out after out-after) q h in
+      let k : RanAs (Refused n) w e list from members before out after out-after = subst (λ (x : RunReply). RanAs x w e list from members before out after out-after) q h in
       absurd (true≢false (sym (k .1) ∙ g))
 
 -- The areas are long enough for the first 65,536 bytes of a list.

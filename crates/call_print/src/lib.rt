@@ -5,7 +5,7 @@ ghost use Prim.Native.Nat.{_/_, _≤_};
 ghost use lib.ListN.{length, take};
 ghost use Rattle.call_run.specs.Run.{too-short};
 ghost use Rattle.call_print.specs.Part.{PartAs};
-use call_run::Ran;
+use call_run::RunReply;
 use reader::Cursor;
 
 // The bytes of a store of 256 records.
@@ -32,17 +32,25 @@ fn run_part(
     ensures { λ r. ⌜ PartAs r (length (now (work .entry))) (length (now (entries .entry)) / 52) (now (list .entry)) from (now (s .entry)) (now (out .entry)) (now (s .exit)) (now (out .exit)) ⌝ }
 {
     match call_run::run(list, Cursor { at: from }, s, work, entries, members, out) {
-        Ran::No(_) => Part {
+        RunReply::Refused(_) => Part {
             next: from,
             written: 0,
             last: true,
         },
-        Ran::Listed(cursor, lines, ended) => Part {
-            next: cursor.at,
-            written: lines,
+        RunReply::Listed {
+            next,
+            written,
+            ended,
+        } => Part {
+            next: next.at,
+            written,
             last: ended,
         },
-        Ran::Broken(_, _, written) => Part {
+        RunReply::Broken {
+            fault: _,
+            place: _,
+            written,
+        } => Part {
             next: from,
             written,
             last: true,

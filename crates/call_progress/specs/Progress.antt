@@ -5,7 +5,7 @@ use mathlib.Core.List.{List}
 use lib.Dec.{leb}
 use lib.ListN.{length}
 use Rattle.call_answers.specs.declared.CallAnswer.{CallAnswer}
-use Rattle.call_answers.specs.declared.CallAnswer.the-variants.{No, Open, AnchorSame, AnchorFresh, Advance, Value, Nothing, Put, Wait, Take, Answer}
+use Rattle.call_answers.specs.declared.CallAnswer.the-variants.{Refused, Open, AnchorSame, AnchorFresh, Advance, Value, Nothing, Put, Wait, Take, Answer}
 use Rattle.call_progress.specs.declared.Progress.{Progress}
 
 -- The room that a run asks for a call's lines: 197 bytes, and 110 for each of the 64 slots that a take lists at most.
@@ -14,7 +14,7 @@ call-lines = 7237
 
 -- Whether the bytes are a store after a call: an accepted open makes them one, and every other call leaves that as it was.
 abbrev pub store-after : Bool → CallAnswer → Bool
-store-after known (No n) = known
+store-after known (Refused n) = known
 store-after known Open = true
 store-after known AnchorSame = known
 store-after known AnchorFresh = known

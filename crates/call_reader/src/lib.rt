@@ -1,14 +1,12 @@
 // The reader of calls: each call of a call list, by its code.
 ghost use mathlib.Core.Path.{_≡_};
 ghost use mathlib.Core.Bool.{true};
-ghost use mathlib.Core.List.{List};
-ghost use Prim.Native.Nat.{ℕ, _+_, _≤_, _<_};
+ghost use Prim.Native.Nat.{_+_, _≤_, _<_};
 ghost use lib.ListN.{length, drop};
 ghost use Rattle.call_list.specs.CallList.{parse-retention, parse-limits, parse-open, parse-install, parse-prepared, parse-advance, parse-put, parse-round, parse-answer, parse-with-slot, parse-anchored, parse-call};
 ghost use Rattle.reader.specs.Answers.{Reading};
-ghost use Rattle.call_list.specs.Listed.{on-slot};
 ghost use Rattle.call_reader.specs.Calls.{retention-answer, retention-next, prepared-answer, prepared-next, prepared-spans, anchored-answer, anchored-next, call-answer, call-next};
-ghost use Rattle.call_reader.specs.Calls.{anchored-of, anchored-within, anchored-spans, call-progress, call-spans, slot-call, parse-rest};
+ghost use Rattle.call_reader.specs.Calls.{anchored-spans, call-progress, call-spans, slot-call-of, slot-call, parse-rest};
 use model::delta_snapshot::Retention;
 use model::delta_snapshot::Slot;
 use model::storage_memo::ReadAnchor;
@@ -28,12 +26,17 @@ pub enum RetentionRead {
     Fault(u64, Cursor),
 }
 
-// A call at an anchor. An answer's members are 53 or 85 bytes each, a failed round's slots 52.
-pub enum AnchoredCall {
+// A call on one slot.
+pub enum SlotCall {
     Look(Slot),
     Get(Slot),
     Put(Slot, U256),
     Read(Slot),
+}
+
+// A call at an anchor. An answer's members are 53 or 85 bytes each, a failed round's slots 52.
+pub enum AnchoredCall {
+    OnSlot(SlotCall),
     Take,
     Answer(Span),
     AnswerFailed(Span),
@@ -201,16 +204,15 @@ fn read_advance(s: &[u8], c: Cursor) -> CallRead
 }
 
 // A look, get or read, by its code.
-fn slot_call(code: u8, slot: Slot) -> AnchoredCall
-    ensures means { λ r. ⌜ ((s : List ℕ) → anchored-of s r ≡ on-slot (slot-call code slot)) ⌝ }
-    ensures spans { λ r. ⌜ ((s : List ℕ) (n : ℕ) → anchored-within s n r) ⌝ }
+fn slot_call(code: u8, slot: Slot) -> SlotCall
+    ensures { λ r. ⌜ slot-call-of r ≡ slot-call code slot ⌝ }
 {
     if code == 4 {
-        AnchoredCall::Look(slot)
+        SlotCall::Look(slot)
     } else if code == 5 {
-        AnchoredCall::Get(slot)
+        SlotCall::Get(slot)
     } else {
-        AnchoredCall::Read(slot)
+        SlotCall::Read(slot)
     }
 }
 
@@ -221,7 +223,10 @@ fn read_slot_call(s: &[u8], code: u8, c: Cursor) -> AnchoredRead
     ensures spans { λ r. ⌜ anchored-spans (now (s .entry)) r ⌝ }
 {
     match reader::read_slot(s, c) {
-        SlotRead::Value(slot, next) => AnchoredRead::Value(slot_call(code, slot), next),
+        SlotRead::Value(slot, next) => AnchoredRead::Value(
+            AnchoredCall::OnSlot(slot_call(code, slot)),
+            next,
+        ),
         SlotRead::Fault(n, place) => AnchoredRead::Fault(n, place),
     }
 }
@@ -234,7 +239,10 @@ fn read_put(s: &[u8], c: Cursor) -> AnchoredRead
 {
     match reader::read_slot(s, c) {
         SlotRead::Value(slot, rest) => match reader::read_u256(s, rest) {
-            Word::Value(value, next) => AnchoredRead::Value(AnchoredCall::Put(slot, value), next),
+            Word::Value(value, next) => AnchoredRead::Value(
+                AnchoredCall::OnSlot(SlotCall::Put(slot, value)),
+                next,
+            ),
             Word::Fault(n, place) => AnchoredRead::Fault(n, place),
         },
         SlotRead::Fault(n, place) => AnchoredRead::Fault(n, place),

@@ -1,21 +1,21 @@
 -- Runs of calls: no call, one call, a fault, and a run after another. Assumes nothing.
 use Prim.Native.Nat.{ℕ, _+_, _/_, _≤_, _<_}
 use mathlib.Core.Path.{_≡_, refl, sym, ap, ap₂, subst, _∙_}
-use mathlib.Core.Bool.{true, false}
+use mathlib.Core.Bool.{false}
 use mathlib.Core.List.{List, [], _∷_, _++_, append-assoc, append-nil}
 use native.Mathlib.Omega.{arith}
 use borrow.Author.Tests.{leb-false, le-leb}
 use lib.Dec.{leb}
 use lib.ListN.{length, take, drop}
 use lib.Seq.{take-take}
-use Rattle.model.specs.Layers.{is-some}
+use Rattle.model.specs.Contents.{is-some}
 use Rattle.model.specs.Numbers.{Bytes}
 use Rattle.model.specs.Store.{Call}
 use Rattle.image.specs.Image.{decode, BytesResult, bytes-step, bytes-final}
 use Rattle.words.proofs.Places.{placed-length}
 use Rattle.call_list.specs.Listed.{ListedCall}
 use Rattle.call_list.specs.Meaning.{default-limits, meaning}
-use Rattle.call_list.specs.CallList.{parsed, fault, parse-call}
+use Rattle.call_list.specs.CallList.{parsed, parse-call}
 use Rattle.call_list.specs.Listing.{answer-lines, end-line, refusal-line}
 use Rattle.call_laws.specs.Runs.{lent-each}
 use Rattle.model.proofs.EntryLaws.{bytes-drop}

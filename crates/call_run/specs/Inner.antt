@@ -6,7 +6,7 @@ use mathlib.Core.List.{List, _++_}
 use mathlib.Core.Option.{Option, some, none}
 use lib.Dec.{leb}
 use lib.ListN.{length, take, drop}
-use Rattle.model.specs.Layers.{is-some}
+use Rattle.model.specs.Contents.{is-some}
 use Rattle.image.specs.Image.{decode, bytes-trace, bytes-final}
 use Rattle.call_list.specs.Listed.{ListedCall}
 use Rattle.call_list.specs.Meaning.{default-limits}

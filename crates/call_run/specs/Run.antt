@@ -13,8 +13,8 @@ use Rattle.call_list.specs.CallList.{parsed, fault, parse-call}
 use Rattle.call_list.specs.Listing.{answer-lines, answers-lines, end-line}
 use Rattle.call_laws.specs.Runs.{lent-each}
 use Rattle.call_progress.specs.Progress.{call-lines}
-use Rattle.call_run.specs.declared.Ran.{Ran}
-use Rattle.call_run.specs.declared.Ran.the-variants.{No, Listed, Broken}
+use Rattle.call_run.specs.declared.RunReply.{RunReply}
+use Rattle.call_run.specs.declared.RunReply.the-variants.{Refused, Listed, Broken}
 
 -- The room that a run asks for a call's lines is enough for those of every call.
 abbrev pub LinesFit : Type 0
@@ -49,8 +49,8 @@ pub record RunTo (w e : ℕ) (list : List ℕ) (from next : ℕ) (ends-with : Op
   pub same-length : length out-after ≡ length out
 
 -- A run was refused with nothing changed; or it stopped at the list's end, or before it for want of room for another call's lines; or at a fault.
-abbrev pub RanAs : Ran → ℕ → ℕ → List ℕ → ℕ → List ℕ → List ℕ → List ℕ → List ℕ → List ℕ → Type 0
-RanAs (No n) w e list from members before out after out-after = (n ≡ 9) × (too-short list members out ≡ true) × (after ≡ before) × (out-after ≡ out)
+abbrev pub RanAs : RunReply → ℕ → ℕ → List ℕ → ℕ → List ℕ → List ℕ → List ℕ → List ℕ → List ℕ → Type 0
+RanAs (Refused n) w e list from members before out after out-after = (n ≡ 9) × (too-short list members out ≡ true) × (after ≡ before) × (out-after ≡ out)
 RanAs (Listed next written ended) w e list from members before out after out-after =
     (too-short list members out ≡ false)
     × RunTo w e list from (next .at) none written before out after out-after

@@ -12,11 +12,19 @@ use call_progress::Progress;
 use call_reader::CallRead;
 use reader::Cursor;
 
-// A run's answer: 9; or the place of the next call, the bytes written and whether the list has ended; or the fault that ended the list, its place and the bytes written.
-pub enum Ran {
-    No(u64),
-    Listed(Cursor, usize, bool),
-    Broken(u64, Cursor, usize),
+// A run's reply: 9; or the place of the next call, the bytes written and whether the list has ended; or the fault that ended the list, its place and the bytes written.
+pub enum RunReply {
+    Refused(u64),
+    Listed {
+        next: Cursor,
+        written: usize,
+        ended: bool,
+    },
+    Broken {
+        fault: u64,
+        place: Cursor,
+        written: usize,
+    },
 }
 
 // One call and its lines.
@@ -86,11 +94,11 @@ pub fn run(
     entries: &mut [u8],
     members: &mut [u8],
     out: &mut [u8],
-) -> Ran
+) -> RunReply
     ensures { λ r. ⌜ RanAs r (length (now (work .entry))) (length (now (entries .entry)) / 52) (now (list .entry)) (from .at) (now (members .entry)) (now (s .entry)) (now (out .entry)) (now (s .exit)) (now (out .exit)) ⌝ }
 {
     if too_short(list, members, out) {
-        return Ran::No(9);
+        return RunReply::Refused(9);
     }
     let first = Progress {
         next: from.at,
@@ -103,9 +111,17 @@ pub fn run(
     };
     let last = run_calls(list, first, s, work, entries, members, out);
     if last.broken {
-        return Ran::Broken(last.fault, Cursor { at: last.place }, last.at);
+        return RunReply::Broken {
+            fault: last.fault,
+            place: Cursor { at: last.place },
+            written: last.at,
+        };
     }
-    Ran::Listed(Cursor { at: last.next }, last.at, last.ended)
+    RunReply::Listed {
+        next: Cursor { at: last.next },
+        written: last.at,
+        ended: last.ended,
+    }
 }
 
 // Every call's lines fit in `CALL_LINES` bytes. The contract is what is claimed, so that the gate fails without the proof.

@@ -10,15 +10,13 @@ use lib.Dec.{ltb}
 use lib.ListN.{length, drop, length-append, length-drop}
 use borrow.Author.Tests.{ltb-false}
 use Rattle.model.specs.declared.storage_memo.ReadAnchor.{ReadAnchor}
-use Rattle.model.specs.declared.storage_memo.Address.{Address}
 use Rattle.model.specs.declared.storage_memo.U256.{U256}
 use Rattle.model.specs.declared.delta_snapshot.Slot.{Slot}
 use Rattle.model.specs.Slots.{Value, anchor-eqb}
-use Rattle.model.specs.Layers.{is-some}
-use Rattle.model.specs.Advance.{Write}
+use Rattle.model.specs.Contents.{is-some}
 use Rattle.model.specs.Reads.{Pending, queued}
 use Rattle.model.specs.Entries.{slot-bytes, slots-bytes, with-slots}
-use Rattle.model.specs.Store.{Config, Generation, AnchoredCall, look, get, put, read, take, answer, answer-failed, StoreCall, install, advance, at-anchor, Call, open-store, on-store, Report, listed, Store, Memory, value-report, perform-get, perform-read, perform-at, resolved, perform, accept}
+use Rattle.model.specs.Store.{Config, Generation, look, get, put, read, AnchoredCall, on-slot, take, answer, answer-failed, Prepared, StoreCall, install, advance, at-anchor, Call, open-store, on-store, Report, listed, Store, Memory, value-report, perform-get, perform-read, perform-at, resolved, perform, accept}
 use Rattle.model.specs.Refusals.{Lent, work-size, Answer, ok, refusal, lent-too-short, output-short-of-queue, conclude, step}
 use Rattle.model.proofs.SlotLaws.{split, or-false-right}
 use Rattle.model.proofs.EntryLaws.{SlotFits, Each, each-none}
@@ -34,7 +32,7 @@ use Rattle.image.proofs.Closure.{closure}
 use Rattle.unchecked_calls.proofs.Turned.{memory-of}
 use Rattle.awaiting.proofs.Entries.{length-slot}
 use Rattle.call_answers.specs.declared.CallAnswer.{CallAnswer}
-use Rattle.call_answers.specs.declared.CallAnswer.the-variants.{No, Open, AnchorSame, AnchorFresh, Advance, Value as Found, Nothing, Put, Wait, Take, Answer as Answered}
+use Rattle.call_answers.specs.declared.CallAnswer.the-variants.{Refused, Open, AnchorSame, AnchorFresh, Advance, Value as Found, Nothing, Put, Wait, Take, Answer as Answered}
 use Rattle.call_answers.specs.Answers.{call-answer, slots-listed}
 use Rattle.unchecked_reads.proofs.Queue.{queued-fit}
 use Rattle.call_answers.proofs.Lines.{listed-in, SlotsFit, slots-listed-count}
@@ -45,7 +43,7 @@ use Rattle.call_steps.proofs.Said.{IsAdvanced, is-advanced, reported}
 -- Whether the bytes are a store ---------------------------------------------------------------------------
 
 still : (a : CallAnswer) → true ≡ store-after true a
-still (No n) = refl
+still (Refused n) = refl
 still Open = refl
 still AnchorSame = refl
 still AnchorFresh = refl
@@ -129,23 +127,23 @@ of-take cfg g l a e u =
     let h : length (queued (g .pending)) ≤ l .output-entries = ltb-false (l .output-entries) (length (queued (g .pending))) (u .output-holds-queue) in
     record { few = omega (arith, length-queued (g .pending), k .few-pending); held = h; fit = queued-fit (g .pending) (k .pending-right); puts = h }
 
-writes-held : (st : Store) (l : Lent) (child : ReadAnchor) (h : U256) (k : ℕ) (relevance : List Address) (ws : List Write) → Unrefused (some st) l (on-store (advance child h k relevance ws)) → length ws ≤ l .output-entries
+writes-held : (st : Store) (l : Lent) (child : ReadAnchor) (h : U256) (p : Prepared) → Unrefused (some st) l (on-store (advance child h p)) → length (p .writes) ≤ l .output-entries
 unfolding lent-too-short
-writes-held st l child h k relevance ws u = ltb-false (l .output-entries) (length ws) (or-false-right (ltb (l .work-bytes) (work-size (st .config .capacity))) _ (u .lent-enough))
+writes-held st l child h p u = ltb-false (l .output-entries) (length (p .writes)) (or-false-right (ltb (l .work-bytes) (work-size (st .config .capacity))) _ (u .lent-enough))
 
 at-call : (cfg : Config) (g : Generation) (l : Lent) (a : ReadAnchor) (k : AnchoredCall) → installed-ok cfg (some g) ≡ true → Unrefused (memory-of cfg (some g)) l (on-store (at-anchor a k)) → Listing (l .output-entries) (perform-at cfg g k .report)
-at-call cfg g l a (look s) e u = of-value (l .output-entries) (resolved (cfg .retention) g s)
-at-call cfg g l a (get s) e u = of-get (l .output-entries) g s (resolved (cfg .retention) g s)
-at-call cfg g l a (put s v) e u = silent (l .output-entries) _ refl refl
-at-call cfg g l a (read s) e u = of-read (l .output-entries) g s (resolved (cfg .retention) g s)
+at-call cfg g l a (on-slot (look s)) e u = of-value (l .output-entries) (resolved (cfg .retention) g s)
+at-call cfg g l a (on-slot (get s)) e u = of-get (l .output-entries) g s (resolved (cfg .retention) g s)
+at-call cfg g l a (on-slot (put s v)) e u = silent (l .output-entries) _ refl refl
+at-call cfg g l a (on-slot (read s)) e u = of-read (l .output-entries) g s (resolved (cfg .retention) g s)
 at-call cfg g l a take e u = of-take cfg g l a e u
 at-call cfg g l a (answer ms) e u = silent (l .output-entries) _ refl refl
 at-call cfg g l a (answer-failed ss) e u = silent (l .output-entries) _ refl refl
 
 on-call : (cfg : Config) (o : Option Generation) (l : Lent) (c : StoreCall) → installed-ok cfg o ≡ true → Unrefused (memory-of cfg o) l (on-store c) → Listing (l .output-entries) (perform cfg o c .report)
 unfolding perform
-on-call cfg o l (advance child h k relevance ws) e u =
-    of-advance (l .output-entries) (length ws) (reported child h k relevance ws cfg o) (writes-held (record { config = cfg; installed = o }) l child h k relevance ws u)
+on-call cfg o l (advance child h p) e u =
+    of-advance (l .output-entries) (length (p .writes)) (reported child h p cfg o) (writes-held (record { config = cfg; installed = o }) l child h p u)
 on-call cfg none l (install a) e u = silent (l .output-entries) _ refl refl
 on-call cfg (some g) l (install a) e u = split (anchor-eqb (g .anchor) a) (λ y. rw y (silent (l .output-entries) _ refl refl)) (λ y. rw y (silent (l .output-entries) _ refl refl))
 on-call cfg none l (at-anchor a k) e u = silent (l .output-entries) _ refl refl

@@ -14,34 +14,33 @@ use Rattle.model.specs.declared.storage_memo.Address.{Address}
 use Rattle.model.specs.Slots.{anchor-eqb}
 use Rattle.model.specs.Advance.{Write, WriteKind, overwrite, new, skip, AppliedWrites, DeltaReport, relevant, final-write-kind, apply-write, count-write, seed-final-writes, compact-base, seal, void-base, classify-link, skip-of, carries}
 use Rattle.model.specs.Reads.{Member}
-use Rattle.model.specs.Layers.{Layer, find, is-some, freshest-use}
+use Rattle.model.specs.Contents.{is-some, valued-use}
+use Rattle.model.specs.Layers.{Layer, find, freshest-use}
 use Rattle.model.specs.Entries.{slots-bytes}
-use Rattle.model.specs.Store.{Config, Generation, look, get, put, read, take, answer, answer-failed, StoreCall, install, advance, at-anchor, Call, open-store, on-store, Report, advanced, Memory, perform, carry, cold-advance}
+use Rattle.model.specs.Store.{Config, Generation, look, get, put, read, on-slot, take, answer, answer-failed, Prepared, StoreCall, install, advance, at-anchor, Call, open-store, on-store, Report, advanced, Memory, perform, carry, cold-advance}
 use Rattle.model.specs.Refusals.{Answer, refuse, refusal, conditions, lent-too-short, output-short-of-queue, step}
 use Rattle.model.proofs.SlotLaws.{split, not-both}
 use Rattle.image.specs.Image.{decode, BytesResult, bytes-step}
 use Rattle.image.specs.Output.{output-after}
-use Rattle.unchecked_calls.specs.declared.Opened.{Opened}
-use Rattle.unchecked_calls.specs.declared.Opened.the-variants as opened
-use Rattle.unchecked_calls.specs.declared.Installed.{Installed}
-use Rattle.unchecked_calls.specs.declared.Installed.the-variants as installed
-use Rattle.unchecked_calls.specs.declared.Looked.{Looked}
-use Rattle.unchecked_calls.specs.declared.Looked.the-variants as looked
-use Rattle.unchecked_calls.specs.declared.PutAnswer.{PutAnswer}
-use Rattle.unchecked_calls.specs.declared.PutAnswer.the-variants as stored
-use Rattle.unchecked_calls.specs.Answers.{opened-answer, installed-answer, looked-answer, put-answer, alone, Stepped}
+use Rattle.replies.specs.declared.OpenReply.{OpenReply}
+use Rattle.replies.specs.declared.OpenReply.the-variants as opened
+use Rattle.replies.specs.declared.InstallReply.{InstallReply}
+use Rattle.replies.specs.declared.InstallReply.the-variants as installed
+use Rattle.replies.specs.declared.LookReply.{LookReply}
+use Rattle.replies.specs.declared.LookReply.the-variants as looked
+use Rattle.replies.specs.declared.PutReply.{PutReply}
+use Rattle.replies.specs.declared.PutReply.the-variants as stored
+use Rattle.replies.specs.Replies.{open-reply, install-reply, look-reply, put-reply, read-reply, answer-reply, alone, with-output, Stepped, Took, AdvancedAs}
 use Rattle.unchecked_calls.proofs.Turned.{no-store}
-use Rattle.unchecked_reads.specs.declared.ReadAnswer.{ReadAnswer}
-use Rattle.unchecked_reads.specs.declared.ReadAnswer.the-variants as waited
-use Rattle.unchecked_reads.specs.declared.AnswerAnswer.{AnswerAnswer}
-use Rattle.unchecked_reads.specs.declared.AnswerAnswer.the-variants as answered
-use Rattle.unchecked_reads.specs.declared.TakeAnswer.{TakeAnswer}
-use Rattle.unchecked_reads.specs.Answers.{read-answer, answered-answer, with-output, Took}
+use Rattle.replies.specs.declared.ReadReply.{ReadReply}
+use Rattle.replies.specs.declared.ReadReply.the-variants as waited
+use Rattle.replies.specs.declared.AnswerReply.{AnswerReply}
+use Rattle.replies.specs.declared.AnswerReply.the-variants as answered
+use Rattle.replies.specs.declared.TakeReply.{TakeReply}
 use Rattle.unchecked_reads.proofs.Said.{turned-down}
-use Rattle.unchecked_advance.specs.declared.Advanced.{Advanced}
-use Rattle.unchecked_advance.specs.Reports.{AdvancedAs}
+use Rattle.replies.specs.declared.AdvanceReply.{AdvanceReply}
 use Rattle.call_answers.specs.declared.CallAnswer.{CallAnswer}
-use Rattle.call_answers.specs.declared.CallAnswer.the-variants.{No}
+use Rattle.call_answers.specs.declared.CallAnswer.the-variants.{Refused}
 use Rattle.call_answers.specs.Answers.{call-answer, take-as, advance-as}
 use Rattle.call_answers.proofs.Lines.{take-means, advance-means}
 use Rattle.call_steps.specs.Steps.{with-lent, SteppedAs}
@@ -55,10 +54,10 @@ no-memory (some st) e = not-both refl e
 pub data Plain : Call → Type 0 where
   plain-open : (n d : ℕ) (R : Retention) → Plain (open-store n d R)
   plain-install : (a : ReadAnchor) → Plain (on-store (install a))
-  plain-look : (a : ReadAnchor) (s : Slot) → Plain (on-store (at-anchor a (look s)))
-  plain-get : (a : ReadAnchor) (s : Slot) → Plain (on-store (at-anchor a (get s)))
-  plain-put : (a : ReadAnchor) (s : Slot) (v : U256) → Plain (on-store (at-anchor a (put s v)))
-  plain-read : (a : ReadAnchor) (s : Slot) → Plain (on-store (at-anchor a (read s)))
+  plain-look : (a : ReadAnchor) (s : Slot) → Plain (on-store (at-anchor a (on-slot (look s))))
+  plain-get : (a : ReadAnchor) (s : Slot) → Plain (on-store (at-anchor a (on-slot (get s))))
+  plain-put : (a : ReadAnchor) (s : Slot) (v : U256) → Plain (on-store (at-anchor a (on-slot (put s v))))
+  plain-read : (a : ReadAnchor) (s : Slot) → Plain (on-store (at-anchor a (on-slot (read s))))
   plain-answer : (a : ReadAnchor) (ms : List Member) → Plain (on-store (at-anchor a (answer ms)))
   plain-failed : (a : ReadAnchor) (ss : List Slot) → Plain (on-store (at-anchor a (answer-failed ss)))
 
@@ -85,37 +84,37 @@ module _ (b : List ℕ) (w : ℕ) (e : List ℕ) where
 abbrev pub Silent : Answer → Type 0
 Silent a = (e : List ℕ) → output-after a e ≡ e
 
-pub silent-open : (r : Opened) → Silent (opened-answer r)
+pub silent-open : (r : OpenReply) → Silent (open-reply r)
 unfolding slots-bytes
-silent-open (opened.No n) e = refl
-silent-open opened.Open e = refl
+silent-open (opened.Refused n) e = refl
+silent-open opened.Opened e = refl
 
-pub silent-install : (r : Installed) → Silent (installed-answer r)
+pub silent-install : (r : InstallReply) → Silent (install-reply r)
 unfolding slots-bytes
-silent-install (installed.No n) e = refl
+silent-install (installed.Refused n) e = refl
 silent-install installed.Same e = refl
 silent-install installed.Fresh e = refl
 
-pub silent-look : (r : Looked) → Silent (looked-answer r)
+pub silent-look : (r : LookReply) → Silent (look-reply r)
 unfolding slots-bytes
-silent-look (looked.No n) e = refl
+silent-look (looked.Refused n) e = refl
 silent-look looked.Nothing e = refl
 silent-look (looked.Value v) e = refl
 
-pub silent-put : (r : PutAnswer) → Silent (put-answer r)
+pub silent-put : (r : PutReply) → Silent (put-reply r)
 unfolding slots-bytes
-silent-put (stored.No n) e = refl
+silent-put (stored.Refused n) e = refl
 silent-put stored.Stored e = refl
 
-pub silent-read : (r : ReadAnswer) → Silent (read-answer r)
+pub silent-read : (r : ReadReply) → Silent (read-reply r)
 unfolding slots-bytes
-silent-read (waited.No n) e = refl
+silent-read (waited.Refused n) e = refl
 silent-read (waited.Value v) e = refl
-silent-read (waited.Wait n) e = refl
+silent-read (waited.Waiting n) e = refl
 
-pub silent-answer : (r : AnswerAnswer) → Silent (answered-answer r)
+pub silent-answer : (r : AnswerReply) → Silent (answer-reply r)
 unfolding slots-bytes
-silent-answer (answered.No n) e = refl
+silent-answer (answered.Refused n) e = refl
 silent-answer (answered.Answered m x w) e = refl
 
 -- A call by another name.
@@ -130,11 +129,11 @@ stepped-as {r} {a} {after} b w e {g} {c} n p k q s =
     (record { answer-is = q ∙ ap call-answer (s .answer-is); bytes-is = s .bytes-is; entries-is = sym (k e) ∙ ap (λ (x : Answer). output-after x e) (s .answer-is) }))
 
 -- A refusal.
-pub refused-as : (n : ℕ) (b e : List ℕ) (o : BytesResult) → o ≡ record { bytes = b; answer = refuse n } → SteppedAs (No n) b e o e
-refused-as n b e o q = subst (λ (x : BytesResult). SteppedAs (No n) b e x e) (sym q) (record { answer-is = refl; bytes-is = refl; entries-is = refl })
+pub refused-as : (n : ℕ) (b e : List ℕ) (o : BytesResult) → o ≡ record { bytes = b; answer = refuse n } → SteppedAs (Refused n) b e o e
+refused-as n b e o q = subst (λ (x : BytesResult). SteppedAs (Refused n) b e x e) (sym q) (record { answer-is = refl; bytes-is = refl; entries-is = refl })
 
 -- Bytes that are no store: 20.
-pub said-20 : (b : List ℕ) (c : StoreCall) (w : ℕ) (e : List ℕ) → decode b ≡ none → SteppedAs (No 20) b e (bytes-step b (with-lent (on-store c) w e)) e
+pub said-20 : (b : List ℕ) (c : StoreCall) (w : ℕ) (e : List ℕ) → decode b ≡ none → SteppedAs (Refused 20) b e (bytes-step b (with-lent (on-store c) w e)) e
 said-20 b c w e d = refused-as 20 b e _ (turned-down b none (with-lent (on-store c) w e) d 20 (no-store _ c))
 
 -- A take and an advance ---------------------------------------------------------------------------------
@@ -153,27 +152,27 @@ applied-few : (R : Retention) (n : ℕ) (relevance : List Address) (b : List Lay
 unfolding seed-final-writes
 applied-few R n relevance b [] l = omega arith
 applied-few R n relevance b (w ∷ ws) l =
-    let k : WriteKind = final-write-kind R n (relevant relevance (w .slot .address)) (find (w .slot) l) (freshest-use (w .slot) b) in
+    let k : WriteKind = final-write-kind R n (relevant relevance (w .slot .address)) (valued-use (find (w .slot) l)) (freshest-use (w .slot) b) in
     let t : Layer = apply-write n k (w .slot) (w .value) l in
     omega (arith, applied-few R n relevance b ws t, count-few k (w .slot) (seed-final-writes R n relevance b ws t .applied-writes))
 
-module _ (child : ReadAnchor) (h : U256) (k : ℕ) (relevance : List Address) (ws : List Write) where
-  pub reported : (cfg : Config) (o : Option Generation) → IsAdvanced (length ws) (perform cfg o (advance child h k relevance ws) .report)
+module _ (child : ReadAnchor) (h : U256) (p : Prepared) where
+  pub reported : (cfg : Config) (o : Option Generation) → IsAdvanced (length (p .writes)) (perform cfg o (advance child h p) .report)
   unfolding perform carry cold-advance
-  reported cfg none = is-advanced _ (applied-few (cfg .retention) (child .number) relevance void-base ws [])
+  reported cfg none = is-advanced _ (applied-few (cfg .retention) (child .number) (p .relevance) void-base (p .writes) [])
   reported cfg (some g) =
       split (anchor-eqb (g .anchor) child)
-      (λ e. let z : 0 ≤ length ws = omega arith in rw e (is-advanced _ z))
-      (λ e. rw e (split (carries (classify-link (some (g .anchor)) child h) (skip-of k))
-      (λ y. rw y (is-advanced _ (applied-few (cfg .retention) (child .number) relevance (seal (g .top) (compact-base (cfg .retention) (cfg .max-depth) (g .anchor .number) (g .base) .base)) ws [])))
-      (λ y. rw y (is-advanced _ (applied-few (cfg .retention) (child .number) relevance void-base ws [])))))
+      (λ e. let z : 0 ≤ length (p .writes) = omega arith in rw e (is-advanced _ z))
+      (λ e. rw e (split (carries (classify-link (some (g .anchor)) child h) (skip-of (p .skip)))
+      (λ y. rw y (is-advanced _ (applied-few (cfg .retention) (child .number) (p .relevance) (seal (g .top) (compact-base (cfg .retention) (cfg .max-depth) (g .anchor .number) (g .base) .base)) (p .writes) [])))
+      (λ y. rw y (is-advanced _ (applied-few (cfg .retention) (child .number) (p .relevance) void-base (p .writes) [])))))
 
 -- A take, and an advance, answered.
-pub took-as : {r : CallAnswer} {t : TakeAnswer} {after out : List ℕ} (b : List ℕ) (w : ℕ) (e : List ℕ) (a : ReadAnchor) → r ≡ take-as t → Took t after out e (bytes-step b (with-output (on-store (at-anchor a take)) e)) → SteppedAs r after out (bytes-step b (with-lent (on-store (at-anchor a take)) w e)) e
+pub took-as : {r : CallAnswer} {t : TakeReply} {after out : List ℕ} (b : List ℕ) (w : ℕ) (e : List ℕ) (a : ReadAnchor) → r ≡ take-as t → Took t after out e (bytes-step b (with-output (on-store (at-anchor a take)) e)) → SteppedAs r after out (bytes-step b (with-lent (on-store (at-anchor a take)) w e)) e
 took-as {r} {t} {after} {out} b w e a q s =
     let h : Took t after out e (bytes-step b (with-lent (on-store (at-anchor a take)) w e)) = subst (λ (o : BytesResult). Took t after out e o) (sym (as-take b w e a)) s in
     record { answer-is = q ∙ take-means t out ∙ ap call-answer (h .answer-is); bytes-is = h .bytes-is; entries-is = h .output-is }
 
-pub advanced-as : {r : CallAnswer} {t : Advanced} {after out : List ℕ} (b : List ℕ) (w : ℕ) (e : List ℕ) (child : ReadAnchor) (h : U256) (k : ℕ) (relevance : List Address) (ws : List Write) → r ≡ advance-as t → AdvancedAs t after out (bytes-step b (with-lent (on-store (advance child h k relevance ws)) w e)) e → SteppedAs r after out (bytes-step b (with-lent (on-store (advance child h k relevance ws)) w e)) e
-advanced-as {t = t} {out = out} b w e child h k relevance ws q s =
+pub advanced-as : {r : CallAnswer} {t : AdvanceReply} {after out : List ℕ} (b : List ℕ) (w : ℕ) (e : List ℕ) (child : ReadAnchor) (h : U256) (p : Prepared) → r ≡ advance-as t → AdvancedAs t after out (bytes-step b (with-lent (on-store (advance child h p)) w e)) e → SteppedAs r after out (bytes-step b (with-lent (on-store (advance child h p)) w e)) e
+advanced-as {t = t} {out = out} b w e child h p q s =
     record { answer-is = q ∙ advance-means t out ∙ ap call-answer (s .answer-is); bytes-is = s .bytes-is; entries-is = s .output-is }

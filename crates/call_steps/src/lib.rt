@@ -4,7 +4,7 @@ ghost use mathlib.Core.List.{List};
 ghost use mathlib.Core.Option.{none};
 ghost use Prim.Native.Nat.{ℕ, _+_, _*_, _/_, _≤_};
 ghost use lib.ListN.{length};
-ghost use Rattle.model.specs.Layers.{is-some};
+ghost use Rattle.model.specs.Contents.{is-some};
 ghost use Rattle.model.specs.Store as calls;
 ghost use Rattle.model.specs.Store.{on-store, at-anchor};
 ghost use Rattle.image.specs.Image.{decode, bytes-step};
@@ -13,13 +13,14 @@ ghost use Rattle.reader.specs.Answers.{slots-at, members-at};
 ghost use Rattle.lent_lists.specs.Members.{MembersThere};
 ghost use Rattle.call_list.specs.Listed as listed;
 ghost use Rattle.call_list.specs.Listed.{OpenLimits};
-ghost use Rattle.call_list.specs.Meaning.{default-limits, anchored-meaning, meaning};
-ghost use Rattle.call_reader.specs.Calls.{prepared-within, prepared-of, anchored-of};
+ghost use Rattle.call_list.specs.Meaning.{default-limits, meaning};
+ghost use Rattle.call_reader.specs.Calls.{prepared-within, prepared-of, slot-call-of, anchored-of};
 ghost use Rattle.call_steps.specs.Steps.{AnchoredThere, CallThere, meant, with-lent, SteppedAs};
 use call_answers::CallAnswer;
 use call_reader::AnchoredCall;
 use call_reader::ListedCall;
 use call_reader::Prepared;
+use call_reader::SlotCall;
 use model::delta_snapshot::DEFAULT_MAX_DEPTH;
 use model::delta_snapshot::Retention;
 use model::storage_memo::ReadAnchor;
@@ -67,6 +68,24 @@ fn answer_failed(list: &[u8], span: Span, s: &mut [u8], anchor: ReadAnchor) -> C
     call_answers::of_answer(unchecked_reads::answer_failed(s, anchor, slots))
 }
 
+// A call on a slot.
+fn on_slot(anchor: ReadAnchor, call: SlotCall, s: &mut [u8]) -> CallAnswer
+    requires { ⌜ IsStore (now s) ⌝ }
+    ensures { λ r. ⌜ ((w : ℕ) (e : List ℕ) → SteppedAs r (now (s .exit)) e (bytes-step (now (s .entry)) (with-lent (on-store (at-anchor anchor (calls.on-slot (slot-call-of call)))) w e)) e) ⌝ }
+{
+    match call {
+        SlotCall::Look(slot) => call_answers::of_look(unchecked_calls::look(s, anchor, slot)),
+        SlotCall::Get(slot) => call_answers::of_look(unchecked_calls::get(s, anchor, slot)),
+        SlotCall::Put(slot, value) => call_answers::of_put(unchecked_calls::put(
+            s,
+            anchor,
+            slot,
+            value,
+        )),
+        SlotCall::Read(slot) => call_answers::of_read(unchecked_reads::read(s, anchor, slot)),
+    }
+}
+
 // A call at an anchor.
 fn anchored(
     list: &[u8],
@@ -77,18 +96,10 @@ fn anchored(
     members: &mut [u8],
 ) -> CallAnswer
     requires { ⌜ IsStore (now s) × AnchoredThere (now list) call × (length (now list) / 53 * 85 ≤ length (now members)) ⌝ }
-    ensures { λ r. ⌜ ((w : ℕ) → SteppedAs r (now (s .exit)) (now (entries .exit)) (bytes-step (now (s .entry)) (with-lent (on-store (at-anchor anchor (anchored-meaning (anchored-of (now (list .entry)) call)))) w (now (entries .entry)))) (now (entries .entry))) ⌝ }
+    ensures { λ r. ⌜ ((w : ℕ) → SteppedAs r (now (s .exit)) (now (entries .exit)) (bytes-step (now (s .entry)) (with-lent (on-store (at-anchor anchor (anchored-of (now (list .entry)) call))) w (now (entries .entry)))) (now (entries .entry))) ⌝ }
 {
     match call {
-        AnchoredCall::Look(slot) => call_answers::of_look(unchecked_calls::look(s, anchor, slot)),
-        AnchoredCall::Get(slot) => call_answers::of_look(unchecked_calls::get(s, anchor, slot)),
-        AnchoredCall::Put(slot, value) => call_answers::of_put(unchecked_calls::put(
-            s,
-            anchor,
-            slot,
-            value,
-        )),
-        AnchoredCall::Read(slot) => call_answers::of_read(unchecked_reads::read(s, anchor, slot)),
+        AnchoredCall::OnSlot(c) => on_slot(anchor, c, s),
         AnchoredCall::Take => call_answers::of_take(unchecked_reads::take(s, anchor, entries)),
         AnchoredCall::Answer(span) => answer(list, span, s, anchor, members),
         AnchoredCall::AnswerFailed(span) => answer_failed(list, span, s, anchor),
@@ -106,7 +117,7 @@ fn advance(
     entries: &mut [u8],
 ) -> CallAnswer
     requires { ⌜ IsStore (now s) × prepared-within (now list) prepared ⌝ }
-    ensures { λ r. ⌜ SteppedAs r (now (s .exit)) (now (entries .exit)) (bytes-step (now (s .entry)) (with-lent (meaning default-limits (listed.advance child «parent_hash» (prepared-of (now (list .entry)) prepared))) (length (now (work .entry))) (now (entries .entry)))) (now (entries .entry)) ⌝ }
+    ensures { λ r. ⌜ SteppedAs r (now (s .exit)) (now (entries .exit)) (bytes-step (now (s .entry)) (with-lent (on-store (calls.advance child «parent_hash» (prepared-of (now (list .entry)) prepared))) (length (now (work .entry))) (now (entries .entry)))) (now (entries .entry)) ⌝ }
 {
     let addresses = prepared.relevance;
     let writes = prepared.writes;
@@ -164,9 +175,9 @@ fn on_other(call: ListedCall, s: &mut [u8]) -> CallAnswer
     match call {
         ListedCall::OpenDefault(capacity) => open_default(s, capacity),
         ListedCall::OpenWith(capacity, depth, retention) => open(s, capacity, depth, retention),
-        ListedCall::Install(_) => CallAnswer::No(20),
-        ListedCall::Advance(_, _, _) => CallAnswer::No(20),
-        ListedCall::Anchored(_, _) => CallAnswer::No(20),
+        ListedCall::Install(_) => CallAnswer::Refused(20),
+        ListedCall::Advance(_, _, _) => CallAnswer::Refused(20),
+        ListedCall::Anchored(_, _) => CallAnswer::Refused(20),
     }
 }
 

@@ -12,7 +12,8 @@ use Rattle.layout.specs.Layout.{awaiting-count-index, awaiting-offset, awaiting
 use Rattle.model.specs.declared.delta_snapshot.Retention.{Retention}
 use Rattle.model.specs.declared.delta_snapshot.Retention.the-variants.{Unbounded, IdleBlocks}
 use Rattle.model.specs.Numbers.{Bytes}
-use Rattle.model.specs.Layers.{Record, Layer, record-count, is-some}
+use Rattle.model.specs.Contents.{is-some}
+use Rattle.model.specs.Layers.{Record, Layer, record-count}
 use Rattle.model.proofs.SlotLaws.{and-left, and-right, and-true, and-false}
 use Rattle.image.specs.WellFormed.{rising}
 use Rattle.model.specs.Refusals.{store-words}

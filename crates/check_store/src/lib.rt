@@ -3,7 +3,7 @@ use model::delta_snapshot::Retention;
 ghost use mathlib.Core.Path.{_≡_};
 ghost use mathlib.Core.Bool.{true, _&&_, cond};
 ghost use lib.Dec.{eqb};
-ghost use Rattle.model.specs.Layers.{is-some};
+ghost use Rattle.model.specs.Contents.{is-some};
 ghost use Rattle.image.specs.Image.{decode};
 ghost use Rattle.checking.specs.Checks.{Sized, parts-in, rules-in};
 

@@ -11,7 +11,7 @@ use borrow.Author.Tests.{eq-eqb, ne-eqb, lt-leb}
 use Rattle.model.specs.Slots.{words-eqb}
 use Rattle.model.proofs.SlotLaws.{and-false}
 use Rattle.image.specs.Image.{flag, padded, entries}
-use Rattle.image.proofs.Words.{Fit, fit-nil, fit-cons}
+use Rattle.model.proofs.WordLaws.{Fit, fit-nil, fit-cons}
 use Rattle.image.proofs.Entries.{joined}
 use Rattle.checking.specs.Checks.{all-zero, all-of}
 

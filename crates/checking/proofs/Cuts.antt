@@ -8,14 +8,13 @@ use lib.Dec.{leb}
 use lib.ListN.{length, take, drop, take-append-drop, length-drop}
 use lib.Seq.{length-take-le}
 use borrow.Author.Tests.{leb-true, le-leb}
-use Rattle.model.specs.declared.delta_snapshot.Slot.{Slot}
-use Rattle.model.specs.Layers.{Content, Record, Layer, record-count}
+use Rattle.model.specs.Layers.{Record, Layer, record-count}
 use Rattle.model.proofs.SlotLaws.{and-left, and-right, and-intro, and-false}
-use Rattle.image.specs.WellFormed.{every, rising, rising-from}
+use Rattle.image.specs.WellFormed.{rising, rising-from}
 use Rattle.image.specs.Image.{flat-records, layer-ends, read-record, Cut, cut}
 use Rattle.checking.specs.Checks.{ends-rise, entries-rise-from, entries-rise, layers-rise}
 use Rattle.rules.specs.Rules.{all-rising}
-use Rattle.checking.proofs.Bools.{and-assoc, take-map, drop-map}
+use Rattle.checking.proofs.Bools.{take-map, drop-map}
 
 -- Ends ------------------------------------------------------------------------------------------------
 
@@ -90,8 +89,3 @@ all-rising-cut from (x ∷ ends) es b =
     turn false b c = simp and-false
     turn true false c = refl
     turn true true c = refl
-
-pub every-append : (p : Slot → Content → Bool) (k l : Layer) → every p (k ++ l) ≡ (every p k && every p l)
-unfolding every
-every-append p [] l = refl
-every-append p (r ∷ k) l = ap (λ (t : Bool). p (r .slot) (r .content) && t) (every-append p k l) ∙ sym (and-assoc (p (r .slot) (r .content)) (every p k) (every p l))

@@ -12,7 +12,7 @@ use borrow.Author.Tests.{leb-true}
 use Rattle.layout.specs.Layout.{awaiting-offset, awaiting-table, awaiting-table-size, ends-limit, ends-offset, ends-size, header-width, record-width, records-offset}
 use Rattle.model.specs.Numbers.{num, Bytes}
 use Rattle.model.specs.Slots.{words-eqb}
-use Rattle.model.specs.Layers.{is-some}
+use Rattle.model.specs.Contents.{is-some}
 use Rattle.model.specs.Store.{Store}
 use Rattle.image.specs.WellFormed.{well-formed}
 use Rattle.model.specs.Refusals.{store-words}

@@ -19,9 +19,11 @@ use Rattle.model.specs.Layers.{Record, Layer, record-count, freshest-use}
 use Rattle.model.specs.Reads.{Pending}
 use Rattle.model.specs.Store.{Config, Generation, Store, chain}
 use Rattle.model.proofs.SlotLaws.{split, and-left, and-right, and-intro, and-false, and-true, words-eqb-true, words-eqb-refl}
-use Rattle.image.specs.WellFormed.{slot-fits, content-fits, chain-ok, all-waiters, every, top-content-ok, records-ok, sizes-ok, totals-ok, config-ok, generation-ok, installed-ok, well-formed, anchor-fits, retention-fits, hash-fits}
+use Rattle.model.specs.Contents.{content-fits, top-content-ok}
+use Rattle.image.specs.WellFormed.{slot-fits, chain-ok, all-waiters, every, records-ok, sizes-ok, totals-ok, config-ok, generation-ok, installed-ok, well-formed, anchor-fits, retention-fits, hash-fits}
 use Rattle.image.specs.Image.{config-words, generation-words, hash-words, totals-words, table-words, installed-words, image-words, padded, layer-ends, flat-records, all-record-words, all-pending-words, read-record, read-pending, read-store, read-generation, entries, Cut, cut}
-use Rattle.image.proofs.Words.{Fit, length-padded}
+use Rattle.model.proofs.WordLaws.{Fit}
+use Rattle.image.proofs.Words.{length-padded}
 use Rattle.image.proofs.Facts.{ConfigFacts, GenerationFacts, generation-facts}
 use Rattle.image.proofs.Entries.{length-flat, length-ends, length-records, length-pending}
 use Rattle.image.proofs.Extent.{Room, room}

@@ -1,17 +1,20 @@
 -- Tests of a header's, an awaiting slot's and a record's words, from the numbers that were read.
 use Prim.Native.Nat.{ℕ, suc, _+_, _-_, _*_, _^_, _≤_, _<_}
-use mathlib.Core.Path.{_≡_, refl, sym, ap, ap₂, _∙_}
+use mathlib.Core.Path.{_≡_, refl, sym, ap, ap₂, subst, _∙_}
 use mathlib.Core.Bool.{Bool, true, false, _&&_}
 use mathlib.Core.List.{List, [], _∷_}
 use native.Mathlib.Omega.{arith}
 use lib.Dec.{eqb, leb, ltb}
 use lib.ListN.{length, take, drop, getD, length-drop}
-use lib.Seq.{take-all}
+use lib.Seq.{take-all, getD-drop}
 use borrow.Author.Tests.{eq-eqb, ne-eqb, lt-ltb, le-ltb, le-leb, lt-leb, leb-true, eqb-true}
-use Rattle.layout.specs.Layout.{accepted-index, awaiting-count-index, awaiting-offset, awaiting-size, awaiting-table, awaiting-width, capacity-index, coalesced-index, depth-index, ends-limit, ends-offset, errors-index, has-index, hash-index, header-width, idle-index, installed-index, last-use-index, max-depth-index, members-index, record-size, record-width, records-count-index, records-offset, refused-index, retention-index, rounds-index, second-use-index, second-waiters-index, served-index, taken-index, value-index, valued-index, waiters-index, waiting-index}
+use Rattle.layout.specs.Layout.{accepted-index, awaiting-count-index, awaiting-offset, awaiting-size, awaiting-table, awaiting-width, capacity-index, coalesced-index, depth-index, ends-limit, ends-offset, errors-index, has-index, hash-index, header-width, idle-index, installed-index, last-use-index, max-depth-index, members-index, record-size, record-width, records-count-index, records-offset, refused-index, retention-index, rounds-index, second-use-index, second-waiters-index, served-index, slot-width, taken-index, value-index, valued-index, waiters-index, waiting-index}
 use Rattle.model.proofs.SlotLaws.{split, not-both, and-false, and-true, and-left, and-right}
-use Rattle.checking.proofs.Bools.{and-assoc}
+use Rattle.model.proofs.ContentLaws.{use-read, content-right-words}
+use Rattle.checking.proofs.Bools.{and-assoc, spell, spelled}
 use Rattle.model.specs.Numbers.{num}
+use Rattle.model.specs.Slots.{words-eqb}
+use Rattle.model.specs.Contents.{content-right}
 use Rattle.image.specs.Image.{words-of, entries}
 use Rattle.checking.specs.Checks.{all-zero, all-of, normal, config-right, anchor-right, counts-right, totals-add-up, totals-right, ends-rise, ends-right, awaiting-right, waiters-sum, queue-right, reads-right, record-right, area-right, records-right, layers-rise, entries-rise, rows, slots-of, slots-rise}
 use Rattle.checking.proofs.Rows.{word-from, rows-are, slots-awaiting, slots-entries}
@@ -64,22 +67,36 @@ awaiting-last e x w f y p q r t h n k z =
 abbrev pub formed-value : List ℕ → Bool
 formed-value e = normal (getD e has-index 0) (getD e value-index 0 ∷ getD e (value-index + 1) 0 ∷ getD e (value-index + 2) 0 ∷ getD e (value-index + 3) 0 ∷ [])
 
+-- With no second use, its words are those of a content.
+content-formed : (e : List ℕ) → length e ≡ record-width → content-right (drop slot-width e) ≡ (formed-value e && eqb (getD e second-use-index 0) 0)
+unfolding normal all-zero words-eqb spell
+content-formed e k =
+    subst (λ (x : List ℕ). content-right (drop slot-width x) ≡ (formed-value x && eqb (getD x second-use-index 0) 0)) (sym (spelled record-width e k))
+    (content-right-words (getD e last-use-index 0) (getD e has-index 0) (getD e value-index 0) (getD e (value-index + 1) 0) (getD e (value-index + 2) 0) (getD e (value-index + 3) 0) (getD e second-use-index 0))
+
+record-words-right : (number : ℕ) (e : List ℕ) → length e ≡ record-width → record-right number e ≡ (ltb (getD e 0 0) (2 ^ 32) && ((formed-value e && eqb (getD e second-use-index 0) 0) && leb (getD e last-use-index 0) number))
+unfolding record-right
+record-words-right number e k = ap₂ (λ (a : Bool) (u : ℕ). ltb (getD e 0 0) (2 ^ 32) && (a && leb u number)) (content-formed e k) (use-read (drop slot-width e) ∙ getD-drop slot-width e 0 0)
+
 -- A record by itself: its first word is too high, it is not in its one form, it has a second use, or its last use decides.
-pub record-high : (number : ℕ) (e : List ℕ) (x : ℕ) → x ≡ getD e 0 0 → 4294967295 < x → false ≡ record-right number e
-unfolding record-right
-record-high number e x p h = rw (le-ltb (getD e 0 0) (2 ^ 32) (omega arith))
+module _ (number : ℕ) (e : List ℕ) (k : length e ≡ record-width) where
+  pub record-high : (x : ℕ) → x ≡ getD e 0 0 → 4294967295 < x → false ≡ record-right number e
+  unfolding record-right
+  record-high x p h = rw (le-ltb (getD e 0 0) (2 ^ 32) (omega arith))
 
-pub record-odd : (number : ℕ) (e : List ℕ) (b : Bool) → b ≡ formed-value e → b ≡ false → false ≡ record-right number e
-unfolding record-right
-record-odd number e b p h = rw (← p, h) (sym (and-false (ltb (getD e 0 0) (2 ^ 32))))
+  pub record-odd : (b : Bool) → b ≡ formed-value e → b ≡ false → false ≡ record-right number e
+  record-odd b p h =
+      sym (record-words-right number e k
+      ∙ ap (λ (a : Bool). ltb (getD e 0 0) (2 ^ 32) && ((a && eqb (getD e second-use-index 0) 0) && leb (getD e last-use-index 0) number)) (sym p ∙ h) ∙ and-false (ltb (getD e 0 0) (2 ^ 32)))
 
-pub record-second : (number : ℕ) (e : List ℕ) (y : ℕ) → y ≡ getD e second-use-index 0 → (y ≡ 0 → ⊥) → false ≡ record-right number e
-unfolding record-right
-record-second number e y p h = rw (ne-eqb (getD e second-use-index 0) 0 (λ z. h (p ∙ z)), and-false (formed-value e)) (sym (and-false (ltb (getD e 0 0) (2 ^ 32))))
+  pub record-second : (y : ℕ) → y ≡ getD e second-use-index 0 → (y ≡ 0 → ⊥) → false ≡ record-right number e
+  record-second y p h =
+      sym (record-words-right number e k
+      ∙ rw (ne-eqb (getD e second-use-index 0) 0 (λ z. h (p ∙ z)), and-false (formed-value e)) (and-false (ltb (getD e 0 0) (2 ^ 32))))
 
-pub record-last : (number : ℕ) (e : List ℕ) (x u y : ℕ) (b : Bool) → x ≡ getD e 0 0 → u ≡ getD e last-use-index 0 → y ≡ getD e second-use-index 0 → b ≡ formed-value e → x ≤ 4294967295 → y ≡ 0 → b ≡ true → leb u number ≡ record-right number e
-unfolding record-right
-record-last number e x u y b p q w r h z k = rw (lt-ltb (getD e 0 0) (2 ^ 32) (omega arith), ← r, k, q, eq-eqb (getD e second-use-index 0) 0 (omega arith))
+  pub record-last : (x u y : ℕ) (b : Bool) → x ≡ getD e 0 0 → u ≡ getD e last-use-index 0 → y ≡ getD e second-use-index 0 → b ≡ formed-value e → x ≤ 4294967295 → y ≡ 0 → b ≡ true → leb u number ≡ record-right number e
+  record-last x u y b p q w r h z t =
+      sym (record-words-right number e k ∙ rw (lt-ltb (getD e 0 0) (2 ^ 32) (omega arith), ← r, t, q, eq-eqb (getD e second-use-index 0) 0 (omega arith)))
 
 -- A flag and the words with it, from where they stand ------------------------------------------------
 

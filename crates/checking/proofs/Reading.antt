@@ -1,28 +1,29 @@
 -- What the tests of records and awaiting slots say of the words that they are read from.
 use Prim.Native.Nat.{ℕ, zero, suc, _+_, _-_, _*_, _^_, _≤_, _<_}
 use mathlib.Core.Path.{_≡_, refl, sym, ap, ap₂, subst, _∙_}
-use mathlib.Core.Bool.{Bool, true, false, _&&_, cond}
-use mathlib.Core.List.{List, [], _∷_, _++_, map}
-use mathlib.Core.Option.{Option}
+use mathlib.Core.Bool.{Bool, true, false, _&&_}
+use mathlib.Core.List.{List, [], _∷_, map}
 use native.Mathlib.Omega.{arith}
-use lib.Dec.{eqb, leb, ltb}
-use lib.ListN.{length, take, drop, getD, length-drop}
-use lib.Seq.{length-take-le, getD-drop}
+use lib.Dec.{leb, eqb, ltb}
+use lib.ListN.{length, take, drop, getD, length-drop, take-append-drop}
+use lib.Seq.{length-take-le}
 use borrow.Author.Tests.{lt-ltb, le-leb}
-use Rattle.layout.specs.Layout.{awaiting-width, capacity-index, has-index, idle-index, installed-index, last-use-index, max-depth-index, number-index, record-width, retention-index, second-use-index, second-waiters-index, slot-width, taken-index, value-index, waiters-index}
+use Rattle.layout.specs.Layout.{awaiting-width, record-width, second-waiters-index, slot-width, taken-index, waiters-index}
 use Rattle.model.specs.declared.delta_snapshot.Slot.{Slot}
-use Rattle.model.specs.Slots.{Value, LastUse, slot-ltb, words-eqb}
-use Rattle.model.specs.Layers.{Content, use-only, valued, Record, Layer, held-value, freshest-use, is-some}
-use Rattle.model.specs.Reads.{Pending}
-use Rattle.model.proofs.SlotLaws.{split, and-left, and-right, and-intro, and-false, and-true}
-use Rattle.image.specs.WellFormed.{every, slot-fits, content-fits, content-ok, at-most, pending-ok-from, pending-ok, all-waiters}
-use Rattle.image.specs.Image.{flat-records, record-words, pending-words, all-record-words, all-pending-words, read-u256, read-slot, read-content, read-record, read-pending, entries}
-use Rattle.image.proofs.Words.{Fit}
-use Rattle.image.proofs.Entries.{joined}
-use Rattle.checking.specs.Checks.{all-zero, all-of, normal, awaiting-right, record-right, entries-rise-from, entries-rise, waiters-sum}
+use Rattle.model.specs.Slots.{slot-words, slot-ltb, words-eqb}
+use Rattle.model.specs.declared.delta_snapshot.Content.{Content}
+use Rattle.model.specs.Contents.{use-of, content-fits, content-ok, content-words, read-content, content-right}
+use Rattle.model.specs.Layers.{Layer, held-value, freshest-use}
+use Rattle.model.proofs.SlotLaws.{and-left, and-right, and-intro, and-false, and-true, words-eqb-refl}
+use Rattle.model.proofs.ContentLaws.{content-fits-read, content-parts}
+use Rattle.image.specs.WellFormed.{every, slot-fits, pending-ok-from, pending-ok, all-waiters}
+use Rattle.image.specs.Image.{flat-records, record-words, pending-words, all-record-words, all-pending-words, read-slot, read-record, read-pending, entries}
+use Rattle.model.proofs.WordLaws.{Fit}
+use Rattle.image.proofs.Entries.{record-wide, records-joined, pending-joined}
+use Rattle.checking.specs.Checks.{all-of, awaiting-right, record-right, entries-rise-from, entries-rise, waiters-sum}
 use Rattle.rules.specs.Rules.{all-content-ok}
-use Rattle.checking.proofs.Bools.{and-assoc, eqb-same, flag-eqb, spell, spelled, fit-take, fit-drop, fit-at, entries-eqb, all-of-and}
-use Rattle.checking.proofs.Cuts.{every-append}
+use Rattle.rules.proofs.LayerLaws.{every-append}
+use Rattle.checking.proofs.Bools.{eqb-same, flag-eqb, spell, spelled, words-eqb-append, fit-take, fit-drop, fit-at, entries-eqb, all-of-and}
 
 -- The tests of an entry's words -----------------------------------------------------------------------
 
@@ -30,12 +31,12 @@ use Rattle.checking.proofs.Cuts.{every-append}
 abbrev pub low : List ℕ → Bool
 low e = ltb (getD e 0 0) (2 ^ 32)
 
--- A record has a value or zeros, and no second use; its last use is within a number.
+-- A record's words after its slot are those of a content; its last use is within a number.
 abbrev pub formed : List ℕ → Bool
-formed e = normal (getD e has-index 0) (getD e value-index 0 ∷ getD e (value-index + 1) 0 ∷ getD e (value-index + 2) 0 ∷ getD e (value-index + 3) 0 ∷ []) && eqb (getD e second-use-index 0) 0
+formed e = content-right (drop slot-width e)
 
 abbrev pub used : ℕ → List ℕ → Bool
-used n e = leb (getD e last-use-index 0) n
+used n e = leb (use-of (read-content (drop slot-width e))) n
 
 -- An awaiting slot has a waiter, not too many, is taken or not, and has no second number.
 abbrev pub waits : List ℕ → Bool
@@ -73,25 +74,14 @@ all-of-same w p q same (suc n) {l} f h =
 slot-fits-low : (f : ℕ → ℕ) → ((i : ℕ) → f i < 2 ^ 64) → slot-fits (read-slot (spell slot-width f)) ≡ ltb (f 0) (2 ^ 32)
 unfolding slot-fits spell
 slot-fits-low f h =
-    simp (lt-ltb (f capacity-index) (2 ^ 64) (h 1), lt-ltb (f max-depth-index) (2 ^ 64) (h 2), lt-ltb (f retention-index) (2 ^ 64) (h 3), lt-ltb (f idle-index) (2 ^ 64) (h 4), lt-ltb (f installed-index) (2 ^ 64) (h 5), lt-ltb (f number-index) (2 ^ 64) (h 6), and-true)
+    simp (lt-ltb (f 1) (2 ^ 64) (h 1), lt-ltb (f 2) (2 ^ 64) (h 2), lt-ltb (f 3) (2 ^ 64) (h 3), lt-ltb (f 4) (2 ^ 64) (h 4), lt-ltb (f 5) (2 ^ 64) (h 5), lt-ltb (f 6) (2 ^ 64) (h 6), and-true)
 
 -- Records ---------------------------------------------------------------------------------------------
 
-record-fits-low : (f : ℕ → ℕ) → ((i : ℕ) → f i < 2 ^ 64) → (slot-fits (read-slot (spell record-width f)) && content-fits (read-content (drop slot-width (spell record-width f)))) ≡ ltb (f 0) (2 ^ 32)
+-- Words that begin with a slot's are the slot's that they are read as.
+slot-same : (f : ℕ → ℕ) → slot-words (read-slot (spell record-width f)) ≡ take slot-width (spell record-width f)
 unfolding spell
-record-fits-low f h =
-    let s : slot-fits (read-slot (spell slot-width f)) ≡ ltb (f 0) (2 ^ 32) = slot-fits-low f h in
-    ap (λ (t : Bool). t && content-fits (read-content (drop slot-width (spell record-width f)))) s
-    ∙ ap (λ (t : Bool). ltb (f 0) (2 ^ 32) && t) (content (eqb (f has-index) 0))
-    ∙ and-true (ltb (f 0) (2 ^ 32))
-  where
-    content : (b : Bool) → content-fits (cond b (use-only (f last-use-index)) (valued (f last-use-index) (record { w0 = f value-index; w1 = f (value-index + 1); w2 = f (value-index + 2); w3 = f (value-index + 3) }))) ≡ true
-    content true = lt-ltb (f last-use-index) (2 ^ 64) (h last-use-index)
-    content false = rw (lt-ltb (f last-use-index) (2 ^ 64) (h last-use-index), lt-ltb (f value-index) (2 ^ 64) (h value-index), lt-ltb (f (value-index + 1)) (2 ^ 64) (h (value-index + 1)), lt-ltb (f (value-index + 2)) (2 ^ 64) (h (value-index + 2)), lt-ltb (f (value-index + 3)) (2 ^ 64) (h (value-index + 3)))
-
-record-same : (f : ℕ → ℕ) → words-eqb (spell record-width f) (record-words (read-record (spell record-width f))) ≡ (normal (f has-index) (f value-index ∷ f (value-index + 1) ∷ f (value-index + 2) ∷ f (value-index + 3) ∷ []) && eqb (f second-use-index) 0)
-unfolding words-eqb normal all-zero spell
-record-same f = split (eqb (f has-index) 0) (λ e. simp (e, eqb-same, and-true, and-assoc)) (λ e. simp (e, eqb-same, and-true, and-assoc))
+slot-same f = refl
 
 every-entry : (p : Slot → Content → Bool) (es : List (List ℕ)) → every p (map read-record es) ≡ all-of (λ e. p (read-slot e) (read-content (drop slot-width e))) es
 unfolding every all-of
@@ -102,12 +92,17 @@ every-entry p (e ∷ es) = ap (λ (t : Bool). p (read-slot e) (read-content (dro
 record-low : (e : List ℕ) → length e ≡ record-width → Fit e → (slot-fits (read-slot e) && content-fits (read-content (drop slot-width e))) ≡ low e
 unfolding spell
 record-low e k g =
-    subst (λ (x : List ℕ). (slot-fits (read-slot x) && content-fits (read-content (drop slot-width x))) ≡ low x) (sym (spelled record-width e k))
-    (record-fits-low (λ i. getD e i 0) (fit-at g))
+    ap₂ (λ (a b : Bool). a && b)
+    (subst (λ (x : List ℕ). slot-fits (read-slot x) ≡ low x) (sym (spelled record-width e k)) (slot-fits-low (λ i. getD e i 0) (fit-at g)))
+    (content-fits-read (drop slot-width e) (fit-at (fit-drop slot-width g)))
+    ∙ and-true (low e)
 
 record-formed : (e : List ℕ) → length e ≡ record-width → words-eqb e (record-words (read-record e)) ≡ formed e
-unfolding spell
-record-formed e k = subst (λ (x : List ℕ). words-eqb x (record-words (read-record x)) ≡ formed x) (sym (spelled record-width e k)) (record-same (λ i. getD e i 0))
+record-formed e k =
+    let s : slot-words (read-slot e) ≡ take slot-width e = subst (λ (x : List ℕ). slot-words (read-slot x) ≡ take slot-width x) (sym (spelled record-width e k)) (slot-same (λ i. getD e i 0)) in
+    ap (λ (l : List ℕ). words-eqb l (record-words (read-record e))) (sym (take-append-drop slot-width e))
+    ∙ words-eqb-append (take slot-width e) (drop slot-width e) (slot-words (read-slot e)) (content-words (read-content (drop slot-width e))) (ap length (sym s))
+    ∙ ap (λ (t : Bool). t && formed e) (ap (words-eqb (take slot-width e)) s ∙ words-eqb-refl (take slot-width e))
 
 -- The records of n entries fit exactly when each first word does.
 pub records-fit : (n : ℕ) {l : List ℕ} → Fit l → record-width * n ≤ length l → every (λ s c. slot-fits s && content-fits c) (map read-record (entries record-width n l)) ≡ all-of low (entries record-width n l)
@@ -115,36 +110,22 @@ records-fit n {l} f h =
     every-entry (λ s c. slot-fits s && content-fits c) (entries record-width n l)
     ∙ all-of-same record-width (λ e. slot-fits (read-slot e) && content-fits (read-content (drop slot-width e))) low record-low n f h
 
--- Words are those of the records that they read as exactly when each has a value or zeros.
-records-joined : (rs : List Record) → all-record-words rs ≡ joined record-words rs
-unfolding all-record-words joined
-records-joined [] = refl
-records-joined (r ∷ rs) = ap (λ (l : List ℕ). record-words r ++ l) (records-joined rs)
-
-record-wide : (s : Slot) (c : Content) → length (record-words (record { slot = s; content = c })) ≡ record-width
-record-wide s (use-only u) = refl
-record-wide s (valued u v) = refl
-
+-- Words are those of the records that they read as exactly when each record's are those of a content.
 pub records-eqb : (n : ℕ) (l : List ℕ) → record-width * n ≤ length l → words-eqb (take (record-width * n) l) (all-record-words (map read-record (entries record-width n l))) ≡ all-of formed (entries record-width n l)
 records-eqb n l h =
     ap (words-eqb (take (record-width * n) l)) (records-joined (map read-record (entries record-width n l)))
-    ∙ entries-eqb record-width record-words read-record formed (λ r. record-wide (r .slot) (r .content)) record-formed n l h
+    ∙ entries-eqb record-width record-words read-record formed record-wide record-formed n l h
 
 -- Every record of right layers is used within the number.
 abbrev use-within : ℕ → Slot → Content → Bool
-use-within n s (use-only u) = leb u n
-use-within n s (valued u v) = leb u n
-
-within-right : (n : ℕ) (h : Option Value) (f : Option LastUse) (s : Slot) (c : Content) → content-ok n h f c ≡ true → use-within n s c ≡ true
-within-right n h f s (use-only u) e = and-right (at-most f u) _ (and-right (is-some h) _ e)
-within-right n h f s (valued u v) e = and-right (at-most f u) _ e
+use-within n s c = leb (use-of c) n
 
 within-layer : (n : ℕ) (ls : List Layer) (l : Layer) → every (λ s c. content-ok n (held-value s ls) (freshest-use s ls) c) l ≡ true → every (use-within n) l ≡ true
 unfolding every
 within-layer n ls [] e = refl
 within-layer n ls (r ∷ l) e =
     let a : Bool = content-ok n (held-value (r .slot) ls) (freshest-use (r .slot) ls) (r .content) in
-    and-intro _ _ (within-right n (held-value (r .slot) ls) (freshest-use (r .slot) ls) (r .slot) (r .content) (and-left a _ e)) (within-layer n ls l (and-right a _ e))
+    and-intro _ _ (le-leb _ _ (content-parts n (held-value (r .slot) ls) (freshest-use (r .slot) ls) (r .content) (and-left a _ e) .use-within)) (within-layer n ls l (and-right a _ e))
 
 within-all : (n : ℕ) (ls : List Layer) → all-content-ok n ls ≡ true → every (use-within n) (flat-records ls) ≡ true
 unfolding all-content-ok flat-records every
@@ -156,11 +137,7 @@ within-all n (l ∷ ls) e =
 within-used : (n : ℕ) (es : List (List ℕ)) → every (use-within n) (map read-record es) ≡ all-of (used n) es
 unfolding every all-of
 within-used n [] = refl
-within-used n (e ∷ es) = ap₂ (λ (a b : Bool). a && b) (either (eqb (getD (drop slot-width e) 1 0) 0) ∙ ap (λ (u : ℕ). leb u n) (getD-drop slot-width e 0 0)) (within-used n es)
-  where
-    either : (b : Bool) → use-within n (read-slot e) (cond b (use-only (getD (drop slot-width e) 0 0)) (valued (getD (drop slot-width e) 0 0) (read-u256 (drop 2 (drop slot-width e))))) ≡ leb (getD (drop slot-width e) 0 0) n
-    either true = refl
-    either false = refl
+within-used n (e ∷ es) = ap (λ (b : Bool). used n e && b) (within-used n es)
 
 pub uses-right : (n : ℕ) (ls : List Layer) (es : List (List ℕ)) → flat-records ls ≡ map read-record es → all-content-ok n ls ≡ true → all-of (used n) es ≡ true
 uses-right n ls es h e = sym (within-used n es) ∙ ap (every (use-within n)) (sym h) ∙ within-all n ls e
@@ -174,11 +151,6 @@ pending-same f = simp (eqb-same, and-true, flag-eqb)
 pending-flagged : (e : List ℕ) → length e ≡ awaiting-width → words-eqb e (pending-words (read-pending e)) ≡ flagged e
 unfolding spell
 pending-flagged e k = subst (λ (x : List ℕ). words-eqb x (pending-words (read-pending x)) ≡ flagged x) (sym (spelled awaiting-width e k)) (pending-same (λ i. getD e i 0))
-
-pending-joined : (q : List Pending) → all-pending-words q ≡ joined pending-words q
-unfolding all-pending-words joined
-pending-joined [] = refl
-pending-joined (w ∷ q) = ap (λ (l : List ℕ). pending-words w ++ l) (pending-joined q)
 
 pub pendings-eqb : (n : ℕ) (l : List ℕ) → awaiting-width * n ≤ length l → words-eqb (take (awaiting-width * n) l) (all-pending-words (map read-pending (entries awaiting-width n l))) ≡ all-of flagged (entries awaiting-width n l)
 pendings-eqb n l h =

@@ -7,7 +7,7 @@ use native.Mathlib.Omega.{arith}
 use native.Mathlib.Numerals.{add-one}
 use lib.Dec.{eqb}
 use lib.ListN.{length, take, drop, getD, length-drop, drop-of-length-le}
-use lib.Seq.{drop-drop, drop-cons, take-add, take-suc, getD-drop, take-at, drop-at}
+use lib.Seq.{drop-drop, drop-cons, take-add, getD-drop, take-at, drop-at}
 use borrow.Author.Tests.{ne-eqb}
 use Rattle.layout.specs.Layout.{awaiting-size, awaiting-width, record-size, record-width, slot-width}
 use Rattle.model.specs.declared.delta_snapshot.Slot.{Slot}
@@ -16,7 +16,8 @@ use Rattle.model.specs.Numbers.{num-from, num, Bytes}
 use Rattle.model.proofs.SlotLaws.{and-true}
 use Rattle.words.proofs.Numbers.{num-below}
 use Rattle.image.specs.Image.{words-of, read-slot, entries}
-use Rattle.image.proofs.Words.{Fit, fit-nil, fit-cons, length-words-of}
+use Rattle.model.proofs.WordLaws.{Fit, fit-nil, fit-cons}
+use Rattle.image.proofs.Words.{length-words-of}
 use Rattle.checking.specs.Checks.{all-zero, all-of, entries-rise-from, entries-rise, rows, slots-of, slots-rise}
 use Rattle.checking.proofs.Bools.{and-assoc}
 

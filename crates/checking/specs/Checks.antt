@@ -4,12 +4,13 @@ use mathlib.Core.Bool.{Bool, true, _&&_, cond}
 use mathlib.Core.List.{List, [], _∷_, _++_, map}
 use lib.Dec.{eqb, leb, ltb}
 use lib.ListN.{length, take, drop, getD}
-use Rattle.layout.specs.Layout.{accepted-index, awaiting-count-index, awaiting-limit, awaiting-offset, awaiting-table, awaiting-width, capacity-index, coalesced-index, depth-index, ends-limit, ends-offset, errors-index, has-index, hash-index, header-width, idle-index, installed-index, last-use-index, magic, max-depth-index, members-index, number-index, record-size, record-width, records-count-index, records-offset, refused-index, retention-index, rounds-index, second-use-index, second-waiters-index, served-index, slot-width, taken-index, value-index, valued-index, waiters-index, waiting-index}
+use Rattle.layout.specs.Layout.{accepted-index, awaiting-count-index, awaiting-limit, awaiting-offset, awaiting-table, awaiting-width, capacity-index, coalesced-index, depth-index, ends-limit, ends-offset, errors-index, hash-index, header-width, idle-index, installed-index, magic, max-depth-index, members-index, number-index, record-size, record-width, records-count-index, records-offset, refused-index, retention-index, rounds-index, second-waiters-index, served-index, slot-width, taken-index, valued-index, waiters-index, waiting-index}
 use Rattle.model.specs.declared.delta_snapshot.Slot.{Slot}
 use Rattle.model.specs.declared.delta_snapshot.Retention.{Retention}
 use Rattle.model.specs.Slots.{slot-ltb}
 use Rattle.model.specs.Layers.{freshest-use}
-use Rattle.image.specs.WellFormed.{every, top-content-ok}
+use Rattle.model.specs.Contents.{use-of, top-content-ok, read-content, content-right}
+use Rattle.image.specs.WellFormed.{every}
 use Rattle.image.specs.Image.{words-of, read-slot, read-record, read-retention, entries, Cut, cut}
 use Rattle.rules.specs.Rules.{all-content-ok}
 
@@ -25,7 +26,7 @@ all-of p (e ∷ es) = p e && all-of p es
 
 -- A flag and the words that count only with it: 0 and zeros, or 1 and any words.
 unfoldable pub normal : ℕ → List ℕ → Bool
-normal f l = cond (eqb f 0) (all-zero l) (eqb f capacity-index)
+normal f l = cond (eqb f 0) (all-zero l) (eqb f 1)
 
 -- The header -------------------------------------------------------------------------------------------
 
@@ -94,11 +95,9 @@ queue-right k l = all-of awaiting-right (entries awaiting-width k l) && (entries
 unfoldable pub reads-right : ℕ → List ℕ → List ℕ → Bool
 reads-right k h l = queue-right k l && totals-right (waiters-sum (entries awaiting-width k l)) k h
 
--- A record by itself: its slot's first word fits, it has a value or zeros, no second use, and its last use is not after the installed number.
+-- A record by itself: its slot's first word fits, its other words are those of a content, and its last use is not after the installed number.
 unfoldable pub record-right : ℕ → List ℕ → Bool
-record-right number e =
-    ltb (getD e 0 0) (2 ^ 32)
-    && ((normal (getD e has-index 0) (getD e value-index 0 ∷ getD e (value-index + 1) 0 ∷ getD e (value-index + 2) 0 ∷ getD e (value-index + 3) 0 ∷ []) && eqb (getD e second-use-index 0) 0) && leb (getD e last-use-index 0) number)
+record-right number e = ltb (getD e 0 0) (2 ^ 32) && (content-right (drop slot-width e) && leb (use-of (read-content (drop slot-width e))) number)
 
 -- The n records are right by themselves, and the other words are 0.
 unfoldable pub area-right : ℕ → ℕ → List ℕ → Bool

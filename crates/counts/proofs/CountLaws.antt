@@ -1,7 +1,7 @@
 -- What the walk gathers of a slot: whether it has a value, and its freshest use.
 use mathlib.Core.Path.{_≡_, refl, sym, ap₂, _∙_}
 use mathlib.Core.Bool.{Bool, true, false, not, _&&_, _||_, true≢false}
-use mathlib.Core.List.{List, [], _∷_}
+use mathlib.Core.List.{List}
 use mathlib.Core.Option.{Option, some, none}
 use Prim.Native.Nat.{ℕ, _*_, _≤_, max}
 use native.Mathlib.Omega.{arith}
@@ -11,16 +11,16 @@ use borrow.Author.Tests.{ltb-true, ltb-false, le-leb, lt-leb}
 use Rattle.layout.specs.Layout.{record-size}
 use Rattle.model.specs.declared.delta_snapshot.Retention.{Retention}
 use Rattle.model.specs.Slots.{Value, LastUse, serves}
-use Rattle.model.specs.Layers.{Content, use-only, valued, Record, Layer, last-use-of, value-of, or-else, max-option, is-some, resolved-through-policy}
+use Rattle.model.specs.Contents.{is-some, use-of, has-value}
+use Rattle.model.specs.Layers.{Record, Layer, resolved-through-policy}
 use Rattle.model.proofs.SlotLaws.{split}
 use Rattle.image.specs.Area.{records-of}
 use Rattle.order.specs.Index.{numbers, no-record, up-from, Ordered}
 use Rattle.order.proofs.RecordLaws.{Bytes}
-use Rattle.order.specs.Walk.{use-of, has-value}
 use Rattle.rules.specs.Rules.{group, newest-value, freshest, oldest-use}
 use Rattle.order.proofs.WalkLaws.{along, walk}
-use Rattle.rules.proofs.GroupLaws.{use-of-valued}
-use Rattle.rules.proofs.RuleLaws.{or-zero, serves-oldest}
+use Rattle.rules.proofs.GroupLaws.{or-zero, use-of-valued, along-any, along-low}
+use Rattle.rules.proofs.RuleLaws.{serves-oldest}
 use Rattle.counts.specs.Counts.{held-in, live-in}
 use Rattle.counts.proofs.SlotCounts.{walk-slots}
 
@@ -38,33 +38,12 @@ see a r = record { any = a .any || has-value (r .content); low = max (a .low) (u
 abbrev pub sees : Layer → Seen → ℕ → Seen
 sees rs a i = see a (getD rs i no-record)
 
--- One record more: whether any has a value, and the largest use.
-pub any-step : (a : Bool) (c : Content) (o : Option Value) → (a || has-value c || is-some o) ≡ (a || is-some (or-else o (value-of (some c))))
-any-step true c o = refl
-any-step false (use-only u) none = refl
-any-step false (use-only u) (some v) = refl
-any-step false (valued u v) none = refl
-any-step false (valued u v) (some w) = refl
-
-pub low-step : (n : ℕ) (c : Content) (o : Option LastUse) → max (max n (use-of c)) (or-zero o) ≡ max n (or-zero (max-option o (last-use-of (some c))))
-low-step n (use-only u) none = omega arith
-low-step n (use-only u) (some w) = omega arith
-low-step n (valued u v) none = omega arith
-low-step n (valued u v) (some w) = omega arith
-
+-- It is whether a slot's records have a value, and their freshest use.
 seen-any : (a : Seen) (g : Layer) → along see a g .any ≡ (a .any || is-some (newest-value g))
-unfolding along newest-value
-seen-any a [] = or-false (a .any)
-  where
-    or-false : (b : Bool) → b ≡ (b || false)
-    or-false true = refl
-    or-false false = refl
-seen-any a (r ∷ g) = seen-any (see a r) g ∙ any-step (a .any) (r .content) (newest-value g)
+seen-any = along-any see (λ a. a .any) (λ a r. refl)
 
 seen-low : (a : Seen) (g : Layer) → along see a g .low ≡ max (a .low) (or-zero (freshest g))
-unfolding along freshest
-seen-low a [] = omega arith
-seen-low a (r ∷ g) = seen-low (see a r) g ∙ low-step (a .low) (r .content) (freshest g)
+seen-low = along-low see (λ a. a .low) (λ a r. refl)
 
 -- Whether a slot is served: of the oldest use that serves, whether it has a value, and its freshest use.
 abbrev pub served : ℕ → Bool → ℕ → Bool

@@ -1,18 +1,20 @@
 -- What the counts over records as they stand are for layers that rise.
 use mathlib.Core.Path.{_≡_, refl, sym, ap, ap₂, _∙_}
-use mathlib.Core.Bool.{Bool, true, false, _||_}
+use mathlib.Core.Bool.{Bool, true, _||_}
 use mathlib.Core.List.{List, [], _∷_, _++_}
 use mathlib.Core.Option.{Option}
 use Prim.Native.Nat.{ℕ}
 use Rattle.model.specs.declared.delta_snapshot.Slot.{Slot}
 use Rattle.model.specs.declared.delta_snapshot.Retention.{Retention}
 use Rattle.model.specs.Slots.{Value, LastUse, mem}
-use Rattle.model.specs.Layers.{Layer, slots, all-slots, is-some, resolved-through-policy, held-value, freshest-use, held-count, live-count, count-distinct}
+use Rattle.model.specs.Contents.{is-some}
+use Rattle.model.specs.Layers.{Layer, slots, all-slots, resolved-through-policy, held-value, freshest-use, held-count, live-count, count-distinct}
 use Rattle.model.proofs.SlotLaws.{and-left}
 use Rattle.model.proofs.LayerLaws.{mem-append}
 use Rattle.image.specs.WellFormed.{chain-ok}
 use Rattle.image.specs.Image.{flat-records}
 use Rattle.rules.specs.Rules.{group, newest-value, freshest, all-rising}
+use Rattle.rules.proofs.GroupLaws.{or-comm}
 use Rattle.rules.proofs.LayerLaws.{newest-held, freshest-held, chain-parts}
 use Rattle.counts.specs.Counts.{held-in, live-in}
 use Rattle.counts.proofs.SlotCounts.{count-ext, count-mems}
@@ -21,12 +23,6 @@ slots-append : (k l : Layer) → slots (k ++ l) ≡ slots k ++ slots l
 unfolding slots
 slots-append [] l = refl
 slots-append (r ∷ k) l = ap (λ (x : List Slot). r .slot ∷ x) (slots-append k l)
-
-or-comm : (a b : Bool) → (a || b) ≡ (b || a)
-or-comm true true = refl
-or-comm true false = refl
-or-comm false true = refl
-or-comm false false = refl
 
 -- The records of layers have the layers' slots.
 pub flat-members : (s : Slot) (ls : List Layer) → mem s (slots (flat-records ls)) ≡ mem s (all-slots ls)

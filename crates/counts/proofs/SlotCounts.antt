@@ -12,7 +12,7 @@ use Rattle.model.specs.Layers.{Record, Layer, slots, count-distinct}
 use Rattle.model.proofs.SlotLaws.{split, not-both, and-right, and-true, or-right, slot-eqb-true, slot-eqb-refl}
 use Rattle.model.proofs.Count.{count-same}
 use Rattle.image.specs.Area.{records-of}
-use Rattle.image.proofs.Words.{Fit}
+use Rattle.model.proofs.WordLaws.{Fit}
 use Rattle.order.specs.Index.{number-of, slot-number, numbers, no-record, up-from, Ordered}
 use Rattle.order.proofs.NumberLaws.{slot-eqb-number}
 use Rattle.order.proofs.RecordLaws.{Bytes, length-records-of, record-at}

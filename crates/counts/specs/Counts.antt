@@ -1,7 +1,8 @@
 -- Held and live, over the records as they stand: the lowest layer's first, the top's last.
 use Prim.Native.Nat.{ℕ}
 use Rattle.model.specs.declared.delta_snapshot.Retention.{Retention}
-use Rattle.model.specs.Layers.{Layer, slots, is-some, resolved-through-policy, count-distinct}
+use Rattle.model.specs.Contents.{is-some}
+use Rattle.model.specs.Layers.{Layer, slots, resolved-through-policy, count-distinct}
 use Rattle.rules.specs.Rules.{group, newest-value, freshest}
 
 -- Held (`snapshot_len`): the number of distinct slots with a value.

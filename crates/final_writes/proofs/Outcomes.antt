@@ -30,7 +30,7 @@ use Rattle.bal_accounts.specs.declared.LentAccount.{LentAccount}
 use Rattle.bal_accounts.specs.declared.Walk.{Walk}
 use Rattle.bal_accounts.specs.Accounts.{AccountChanges, group-accounts, admitted-writes, admitted-reads, filtered-entries, read-account}
 use Rattle.bal_accounts.specs.Walking.{start, WalkFits, AccountsSeeded}
-use Rattle.final_writes.specs.declared.FinalWritesAnswer.the-variants.{No, Seeded}
+use Rattle.final_writes.specs.declared.FinalWritesReply.the-variants.{Refused, Seeded}
 use Rattle.final_writes.specs.FinalWrites.{LentLists, accounts-of, seed-from-accounts, counts-differ, outputs-too-short, final-writes-refusal, FinalWrites, refuse, seeded, conclude, final-writes}
 use Rattle.final_writes.specs.Lent.{lent-lists, joined, beginning-with, lent-final-writes, Answers}
 use Rattle.final_writes.specs.Counts.{counts-of}
@@ -117,18 +117,18 @@ module _ (accounts slots changes reads plan wo ro : List ℕ) (max-writes max-re
   short-is =
       ap₂ (λ (x y : ℕ). ltb (length wo / 84) x || ltb (length ro / 52) y) (length-entries read-slot 40 (length slots / 40) slots) (length-entries (u256-at 0) 32 (length reads / 32) reads)
 
-  refused : (n : ℕ) (s t : Bool) → cond s (some 10) (cond t (some 9) none) ≡ some n → counts-differ lists ≡ s → too-short ≡ t → Answers (No n) wo ro called wo ro
+  refused : (n : ℕ) (s t : Bool) → cond s (some 10) (cond t (some 9) none) ≡ some n → counts-differ lists ≡ s → too-short ≡ t → Answers (Refused n) wo ro called wo ro
   refused n s t k e f =
       let o : called ≡ refuse n = decided s t e f ∙ ap (λ (x : Option ℕ). conclude x (seed-from-accounts the-plan (accounts-of lists))) k in
-      subst (λ (x : FinalWrites). Answers (No n) wo ro x wo ro) (sym o) (record { answer-is = refl; writes-are = refl; reads-are = refl })
+      subst (λ (x : FinalWrites). Answers (Refused n) wo ro x wo ro) (sym o) (record { answer-is = refl; writes-are = refl; reads-are = refl })
 
-  pub refused-10 : counts-differ lists ≡ true → Answers (No 10) wo ro called wo ro
+  pub refused-10 : counts-differ lists ≡ true → Answers (Refused 10) wo ro called wo ro
   refused-10 e = refused 10 true (too-short) refl e refl
 
-  pub refused-9-writes : counts-differ lists ≡ false → length wo / 84 < length slots / 40 → Answers (No 9) wo ro called wo ro
+  pub refused-9-writes : counts-differ lists ≡ false → length wo / 84 < length slots / 40 → Answers (Refused 9) wo ro called wo ro
   refused-9-writes e h = refused 9 false true refl e (short-is ∙ ap (λ (x : Bool). x || ltb (length ro / 52) (length reads / 32)) (lt-ltb (length wo / 84) (length slots / 40) h))
 
-  pub refused-9-reads : counts-differ lists ≡ false → length slots / 40 ≤ length wo / 84 → length ro / 52 < length reads / 32 → Answers (No 9) wo ro called wo ro
+  pub refused-9-reads : counts-differ lists ≡ false → length slots / 40 ≤ length wo / 84 → length ro / 52 < length reads / 32 → Answers (Refused 9) wo ro called wo ro
   refused-9-reads e g h = refused 9 false true refl e (short-is ∙ ap₂ (λ (x y : Bool). x || y) (le-ltb (length wo / 84) (length slots / 40) g) (lt-ltb (length ro / 52) (length reads / 32) h))
 
   module _ (w : Walk) (wo' ro' : List ℕ) (alike : counts-differ lists ≡ false) (g : length slots / 40 ≤ length wo / 84) (h : length reads / 32 ≤ length ro / 52)

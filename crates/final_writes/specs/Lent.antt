@@ -10,8 +10,8 @@ use Rattle.final_change.specs.Changes.{changes-in}
 use Rattle.bal_plan.specs.Plan.{BalPlan}
 use Rattle.bal_entries.specs.Listed.{slots-in, reads-in}
 use Rattle.bal_accounts.specs.Accounts.{accounts-in}
-use Rattle.final_writes.specs.declared.FinalWritesAnswer.{FinalWritesAnswer}
-use Rattle.final_writes.specs.declared.FinalWritesAnswer.the-variants.{No, Seeded}
+use Rattle.final_writes.specs.declared.FinalWritesReply.{FinalWritesReply}
+use Rattle.final_writes.specs.declared.FinalWritesReply.the-variants.{Refused, Seeded}
 use Rattle.final_writes.specs.FinalWrites.{LentLists, FinalWrites, refuse, seeded, final-writes}
 
 -- The lists that the lent bytes give: accounts of 36 bytes, slots of 40, changes of 40, reads of 32.
@@ -28,11 +28,11 @@ joined (b ∷ bs) = b ++ joined bs
 abbrev pub beginning-with : List (List ℕ) → List ℕ → List ℕ
 beginning-with bs out = placed 0 (joined bs) out
 
--- What an answer means, with the two outputs after the call: the seed's writes and reads are the outputs' first entries, as many as the answer counts.
+-- What a reply means, with the two outputs after the call: the seed's writes and reads are the outputs' first entries, as many as the reply counts.
 -- A refusal is its number and nothing else: it carries no count, document 01's "all counts 0".
-abbrev pub final-writes-answer : FinalWritesAnswer → List ℕ → List ℕ → FinalWrites
-final-writes-answer (No n) wo ro = refuse n
-final-writes-answer (Seeded c) wo ro =
+abbrev pub final-writes-reply : FinalWritesReply → List ℕ → List ℕ → FinalWrites
+final-writes-reply (Refused n) wo ro = refuse n
+final-writes-reply (Seeded c) wo ro =
     seeded (record { writes = map write-of (chunks 84 (c .writes) wo); reads = first-slots (c .reads) ro; filtered = c .filtered; capped = c .capped })
 
 -- The outputs after a call: a refused call keeps every byte, an accepted one those past its last entry.
@@ -49,7 +49,7 @@ unfoldable pub lent-final-writes : BalPlan → LentLists → List ℕ → List �
 lent-final-writes p l wo ro = final-writes p l (length wo / 84) (length ro / 52)
 
 -- A call answered, and left its two outputs, as final writes say.
-pub record Answers (r : FinalWritesAnswer) (wo' ro' : List ℕ) (f : FinalWrites) (wo ro : List ℕ) : Type 0 where
-  pub answer-is : final-writes-answer r wo' ro' ≡ f
+pub record Answers (r : FinalWritesReply) (wo' ro' : List ℕ) (f : FinalWrites) (wo ro : List ℕ) : Type 0 where
+  pub answer-is : final-writes-reply r wo' ro' ≡ f
   pub writes-are : wo' ≡ writes-after f wo
   pub reads-are : ro' ≡ reads-after f ro

@@ -21,9 +21,9 @@ pub struct SeedCounts {
     pub capped: u64,
 }
 
-// What final writes answer: document 01's number of a refusal, or the counts of the seed.
-pub enum FinalWritesAnswer {
-    No(u64),
+// The reply of final writes: document 01's number of a refusal, or the counts of the seed.
+pub enum FinalWritesReply {
+    Refused(u64),
     Seeded(SeedCounts),
 }
 
@@ -92,17 +92,17 @@ pub fn final_writes(
     max_reads: Cap,
     writes_out: &mut [u8],
     reads_out: &mut [u8],
-) -> FinalWritesAnswer
+) -> FinalWritesReply
     ensures { λ r. ⌜ Answers r (now («writes_out» .exit)) (now («reads_out» .exit)) (lent-final-writes (plan-of (now («plan_addresses» .entry)) «max_writes» «max_reads») (lent-lists (now (accounts .entry)) (now (slots .entry)) (now (changes .entry)) (now (reads .entry))) (now («writes_out» .entry)) (now («reads_out» .entry))) (now («writes_out» .entry)) (now («reads_out» .entry)) ⌝ }
 {
     if !counts_agree(accounts, slots, changes, reads) {
-        return FinalWritesAnswer::No(10);
+        return FinalWritesReply::Refused(10);
     }
     if writes_out.len() / 84 < slots.len() / 40 {
-        return FinalWritesAnswer::No(9);
+        return FinalWritesReply::Refused(9);
     }
     if reads_out.len() / 52 < reads.len() / 32 {
-        return FinalWritesAnswer::No(9);
+        return FinalWritesReply::Refused(9);
     }
     let w = bal_accounts::seed_from_accounts(
         accounts,
@@ -115,5 +115,5 @@ pub fn final_writes(
         writes_out,
         reads_out,
     );
-    FinalWritesAnswer::Seeded(counts_of(w, bal_plan::limit(max_writes), bal_plan::limit(max_reads)))
+    FinalWritesReply::Seeded(counts_of(w, bal_plan::limit(max_writes), bal_plan::limit(max_reads)))
 }

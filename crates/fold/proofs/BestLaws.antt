@@ -9,17 +9,19 @@ use lib.Dec.{ltb}
 use lib.ListN.{getD}
 use Rattle.model.specs.declared.delta_snapshot.Slot.{Slot}
 use Rattle.model.specs.declared.delta_snapshot.Retention.{Retention}
-use Rattle.model.specs.Slots.{Value, LastUse, slot-eqb, mem}
-use Rattle.model.specs.Layers.{Content, use-only, valued, Record, Layer, last-use-of, value-of, or-else, max-option, is-some, insert, slots}
+use Rattle.model.specs.Slots.{Value, LastUse, slot-eqb, mem, serves}
+use Rattle.model.specs.declared.delta_snapshot.Content.{Content}
+use Rattle.model.specs.Contents.{or-else, value-of, is-some, use-of, own-value, has-value}
+use Rattle.model.specs.Layers.{Record, Layer, insert, slots}
 use Rattle.model.specs.Advance.{compact-slot, lapsed}
 use Rattle.model.proofs.SlotLaws.{split, not-both, slot-eqb-true}
+use Rattle.model.proofs.ContentLaws.{touch-valued}
 use Rattle.order.specs.Index.{no-record}
-use Rattle.order.specs.Walk.{use-of, has-value}
 use Rattle.rules.specs.Rules.{group, newest-value, freshest, oldest-use}
 use Rattle.order.proofs.WalkLaws.{along}
-use Rattle.rules.proofs.GroupLaws.{or-else-assoc, use-of-valued}
-use Rattle.rules.proofs.RuleLaws.{or-zero, serves-oldest}
-use Rattle.counts.proofs.CountLaws.{served, any-step, low-step}
+use Rattle.rules.proofs.GroupLaws.{or-else-assoc, or-else-none, is-some-max, or-zero, use-of-valued, along-any, along-low}
+use Rattle.rules.proofs.RuleLaws.{serves-oldest}
+use Rattle.counts.proofs.CountLaws.{served}
 use Rattle.fold.specs.Stored.{kept}
 
 -- Of the records met of a slot: whether one has a value, the largest use, and the newest with a value.
@@ -45,27 +47,22 @@ abbrev pub drops : ℕ → Best → Bool
 drops least a = ltb (a .low) least
 
 best-any : (a : Best) (g : Layer) → along better a g .any ≡ (a .any || is-some (newest-value g))
-unfolding along newest-value
-best-any a [] = or-false (a .any)
-  where
-    or-false : (b : Bool) → b ≡ (b || false)
-    or-false true = refl
-    or-false false = refl
-best-any a (r ∷ g) = best-any (better a r) g ∙ any-step (a .any) (r .content) (newest-value g)
+best-any = along-any better (λ a. a .any) (λ a r. refl)
 
 best-low : (a : Best) (g : Layer) → along better a g .low ≡ max (a .low) (or-zero (freshest g))
-unfolding along freshest
-best-low a [] = omega arith
-best-low a (r ∷ g) = best-low (better a r) g ∙ low-step (a .low) (r .content) (freshest g)
+best-low = along-low better (λ a. a .low) (λ a r. refl)
 
 -- A record is of the slot and has the value, if there is one.
 data Has (s : Slot) (r : Record) : Option Value → Type 0 where
   no-value : Has s r none
-  value : {v : Value} (u : LastUse) → r .slot ≡ s → r .content ≡ valued u v → Has s r (some v)
+  value : {v : Value} → r .slot ≡ s → own-value (r .content) ≡ some v → Has s r (some v)
 
-has-more : (s : Slot) (r b : Record) (h : Option Value) (c : Content) → r .slot ≡ s → r .content ≡ c → Has s b h → Has s (cond (has-value c) r b) (or-else (value-of (some c)) h)
-has-more s r b h (use-only u) e f k = k
-has-more s r b h (valued u v) e f k = value u e f
+has-more : (s : Slot) (r b : Record) (h : Option Value) → r .slot ≡ s → Has s b h → Has s (cond (has-value (r .content)) r b) (or-else (own-value (r .content)) h)
+has-more s r b h e k = go (own-value (r .content)) refl
+  where
+    go : (o : Option Value) → own-value (r .content) ≡ o → Has s (cond (is-some o) r b) (or-else o h)
+    go none q = k
+    go (some v) q = value e q
 
 best-has : (s : Slot) (rs : Layer) (a : Best) (h : Option Value) → Has s (a .best) h → Has s (along better a (group s rs) .best) (or-else (newest-value (group s rs)) h)
 unfolding along group newest-value
@@ -73,21 +70,19 @@ best-has s [] a h k = k
 best-has s (r ∷ rs) a h k =
     split (slot-eqb (r .slot) s)
     (λ e. rw (e, or-else-assoc (newest-value (group s rs)) (value-of (some (r .content))) h)
-    (best-has s rs (better a r) (or-else (value-of (some (r .content))) h) (has-more s r (a .best) h (r .content) (slot-eqb-true (r .slot) s e) refl k)))
+    (best-has s rs (better a r) (or-else (value-of (some (r .content))) h) (has-more s r (a .best) h (slot-eqb-true (r .slot) s e) k)))
     (λ e. rw e (best-has s rs a h k))
-
-or-else-none : (h : Option Value) → or-else h none ≡ h
-or-else-none none = refl
-or-else-none (some v) = refl
 
 -- One slot: what is given is what a fold leaves of it.
 kept-is : (R : Retention) (now : ℕ) (s : Slot) (r : Record) (f : Option LastUse) {h : Option Value} → (is-some h ≡ true → is-some f ≡ true) → Has s r h
     → kept (served (oldest-use R now) (is-some h) (or-zero f)) (or-zero f) r ≡ compact-slot R now s f h []
 unfolding insert
 kept-is R now s r none q no-value = refl
-kept-is R now s r none q (value u e g) = absurd (true≢false (sym (q refl)))
+kept-is R now s r none q (value e g) = absurd (true≢false (sym (q refl)))
 kept-is R now s r (some w) q no-value = refl
-kept-is R now s r (some w) q (value u e g) = rw (← serves-oldest R w now, e, g)
+kept-is R now s r (some w) q (value {v = v} e g) =
+    ap (λ (b : Bool). kept b w r) (sym (serves-oldest R w now))
+    ∙ ap₂ (λ (t : Slot) (c : Content). cond (serves R w now) (record { slot = t; content = c } ∷ []) []) e (touch-valued w (r .content) v g)
 
 pub gives-is : (R : Retention) (now : ℕ) (rs : Layer) (s : Slot) → gives (oldest-use R now) (along better (begin rs) (group s rs)) ≡ compact-slot R now s (freshest (group s rs)) (newest-value (group s rs)) []
 gives-is R now rs s =
@@ -99,16 +94,10 @@ gives-is R now rs s =
     ∙ kept-is R now s (a .best) (freshest g) (use-of-valued g) k
 
 -- A slot with a record has a use.
-use-more : (o : Option ℕ) (c : Content) → is-some (max-option o (last-use-of (some c))) ≡ true
-use-more none (use-only u) = refl
-use-more none (valued u v) = refl
-use-more (some a) (use-only u) = refl
-use-more (some a) (valued u v) = refl
-
 use-of-member : (s : Slot) (rs : Layer) → mem s (slots rs) ≡ true → is-some (freshest (group s rs)) ≡ true
 unfolding mem slots group freshest
 use-of-member s [] m = not-both m refl
-use-of-member s (r ∷ rs) m = split (slot-eqb (r .slot) s) (λ e. rw e (use-more (freshest (group s rs)) (r .content))) (λ e. rw e (use-of-member s rs (rw e at m)))
+use-of-member s (r ∷ rs) m = split (slot-eqb (r .slot) s) (λ e. rw e (is-some-max (freshest (group s rs)) (use-of (r .content)))) (λ e. rw e (use-of-member s rs (rw e at m)))
 
 not-not : (a : Bool) → a ≡ not (not a)
 not-not true = refl

@@ -14,12 +14,13 @@ use Rattle.layout.specs.Layout.{record-size}
 use Rattle.model.specs.declared.delta_snapshot.Slot.{Slot}
 use Rattle.model.specs.declared.delta_snapshot.Retention.{Retention}
 use Rattle.model.specs.Slots.{Value, LastUse, slot-words, slot-ltb, mem, serves}
-use Rattle.model.specs.Layers.{valued, Record, Layer, slots, insert}
+use Rattle.model.specs.Contents.{valued}
+use Rattle.model.specs.Layers.{Record, Layer, slots, insert}
 use Rattle.model.specs.Advance.{compact-slot}
 use Rattle.model.proofs.SlotLaws.{split, slot-eqb-true}
 use Rattle.image.specs.WellFormed.{rising-from}
 use Rattle.image.specs.Area.{records-of}
-use Rattle.image.proofs.Words.{Fit}
+use Rattle.model.proofs.WordLaws.{Fit}
 use Rattle.order.specs.Index.{All, Rises, Names, pick, Ordered, up-from, number-of, slot-number, words-number, numbers, no-record}
 use Rattle.order.specs.Index.All.{nil, add}
 use Rattle.order.specs.Index.Rises.{rise}

@@ -9,21 +9,20 @@ use Rattle.layout.specs.Layout.{record-size}
 use Rattle.model.specs.declared.delta_snapshot.Slot.{Slot}
 use Rattle.model.specs.declared.delta_snapshot.Retention.{Retention}
 use Rattle.model.specs.Slots.{Value, LastUse, slot-words, u256-words, slot-eqb, slot-ltb, serves}
-use Rattle.model.specs.Layers.{Content, use-only, valued, Record, Layer, last-use-of, value-of, or-else, max-option, insert, slots}
+use Rattle.model.specs.declared.delta_snapshot.Content.{Content}
+use Rattle.model.specs.Contents.{valued, use-of, own-value, last-use-of, value-of, or-else, max-option, content-words}
+use Rattle.model.specs.Layers.{Record, Layer, insert, slots}
 use Rattle.model.specs.Advance.{compact-slot}
 use Rattle.model.specs.Numbers.{Bytes}
 use Rattle.model.proofs.SlotLaws.{split}
-use Rattle.image.specs.Image.{content-words, record-words, all-record-words}
+use Rattle.image.specs.Image.{record-words, all-record-words}
 use Rattle.image.specs.Area.{records-of, with-records}
-use Rattle.image.proofs.Words.{Fit, fit-nil, fit-cons, fit-append}
+use Rattle.model.proofs.WordLaws.{Fit, fit-nil, fit-cons, fit-append, fit-left}
+use Rattle.model.proofs.ContentLaws.{use-fits, own-value-fits, fit-valued}
 use Rattle.records.proofs.Again.{fit-read, fit-insert, records-back}
 use Rattle.rules.specs.Rules.{group, newest-value, freshest}
 use Rattle.counts.proofs.SlotCounts.{AllFit, fit-none, fit-more}
 use Rattle.fold.specs.Fold.{folded-slots, folded}
-
-fit-left : (xs ys : List ℕ) → Fit (xs ++ ys) → Fit xs
-fit-left [] ys f = fit-nil
-fit-left (x ∷ xs) ys (fit-cons h f) = fit-cons h (fit-left xs ys f)
 
 fit-right : (xs ys : List ℕ) → Fit (xs ++ ys) → Fit ys
 fit-right [] ys f = f
@@ -36,11 +35,11 @@ data RecordsFit : Layer → Type 0 where
 
 data UseFits : Option LastUse → Type 0 where
   no-use : UseFits none
-  use-fits : {u : LastUse} → u < 2 ^ 64 → UseFits (some u)
+  with-use : {u : LastUse} → u < 2 ^ 64 → UseFits (some u)
 
 data ValueFits : Option Value → Type 0 where
   no-value : ValueFits none
-  value-fits : {v : Value} → Fit (u256-words v) → ValueFits (some v)
+  with-value : {v : Value} → Fit (u256-words v) → ValueFits (some v)
 
 each-fits : (l : Layer) → Fit (all-record-words l) → RecordsFit l
 unfolding all-record-words
@@ -58,15 +57,16 @@ group-fits s [] f = no-records
 group-fits s (r ∷ l) (and-record p f) = split (slot-eqb (r .slot) s) (λ e. rw e (and-record p (group-fits s l f))) (λ e. rw e (group-fits s l f))
 
 use-more : (c : Content) {o : Option LastUse} → Fit (content-words c) → UseFits o → UseFits (max-option o (last-use-of (some c)))
-use-more (use-only u) (fit-cons h f) no-use = use-fits h
-use-more (use-only u) (fit-cons h f) (use-fits {u = w} k) = use-fits {u = max w u} (omega arith)
-use-more (valued u v) (fit-cons h f) no-use = use-fits h
-use-more (valued u v) (fit-cons h f) (use-fits {u = w} k) = use-fits {u = max w u} (omega arith)
+use-more c f no-use = with-use (use-fits c f)
+use-more c f (with-use {u = w} k) = with-use {u = max w (use-of c)} (omega (arith, use-fits c f))
 
 value-more : (c : Content) {o : Option Value} → Fit (content-words c) → ValueFits o → ValueFits (or-else o (value-of (some c)))
-value-more (use-only u) f no-value = no-value
-value-more (valued u v) (fit-cons h (fit-cons k f)) no-value = value-fits (fit-left (u256-words v) (0 ∷ []) f)
-value-more c f (value-fits k) = value-fits k
+value-more c f (with-value k) = with-value k
+value-more c f no-value = go (own-value c) refl
+  where
+    go : (o : Option Value) → own-value c ≡ o → ValueFits o
+    go none q = no-value
+    go (some v) q = with-value (own-value-fits c v q f)
 
 freshest-fits : {g : Layer} → RecordsFit g → UseFits (freshest g)
 unfolding freshest
@@ -81,10 +81,10 @@ newest-fits (and-record {r = r} p f) = value-more (r .content) (fit-right (slot-
 module _ (R : Retention) (now : ℕ) where
   slot-fit : (s : Slot) (l : Layer) {f : Option LastUse} {h : Option Value} → Fit (slot-words s) → UseFits f → ValueFits h → Fit (all-record-words l) → Fit (all-record-words (compact-slot R now s f h l))
   slot-fit s l p no-use b k = k
-  slot-fit s l p (use-fits a) no-value k = k
-  slot-fit s l p (use-fits {u = u} a) (value-fits {v = v} b) k =
+  slot-fit s l p (with-use a) no-value k = k
+  slot-fit s l p (with-use {u = u} a) (with-value {v = v} b) k =
       split (serves R u now)
-      (λ e. rw e (fit-insert s (valued u v) l (fit-append p (fit-cons a (fit-cons {x = 1} (omega arith) (fit-append b (fit-cons {x = 0} (omega arith) fit-nil))))) k))
+      (λ e. rw e (fit-insert s (valued u v) l (fit-append p (fit-valued u v a b)) k))
       (λ e. rw e k)
 
   slots-folded-fit : (rs : Layer) (ss : List Slot) → RecordsFit rs → AllFit ss → Fit (all-record-words (folded-slots R now rs ss))

@@ -8,7 +8,8 @@ use lib.ListN.{length}
 use Rattle.model.specs.declared.delta_snapshot.Slot.{Slot}
 use Rattle.model.specs.declared.delta_snapshot.Retention.{Retention}
 use Rattle.model.specs.Slots.{Value, LastUse, slot-eqb, mem, serves}
-use Rattle.model.specs.Layers.{valued, Layer, find, slots, all-slots, freshest-use, count-distinct}
+use Rattle.model.specs.Contents.{valued}
+use Rattle.model.specs.Layers.{Layer, find, slots, all-slots, freshest-use, count-distinct}
 use Rattle.model.specs.Advance.{compact-slot, compact-slots, lapsed, compact}
 use Rattle.model.proofs.SlotLaws.{split, slot-eqb-true}
 use Rattle.model.proofs.SlotRelation.{compacted-content}

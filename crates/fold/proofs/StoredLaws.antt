@@ -1,114 +1,43 @@
--- Words and records written one after the other.
+-- Records written one after the other.
 use mathlib.Core.Path.{_≡_, sym, ap, ap₂, _∙_}
 use mathlib.Core.Bool.{Bool, true, false, cond}
 use mathlib.Core.List.{List, [], _∷_, _++_, append-assoc, append-nil}
-use Prim.Native.Nat.{ℕ, suc, _+_, _*_, _≤_, _<_}
+use Prim.Native.Nat.{ℕ, suc, _+_, _*_, _≤_}
 use native.Mathlib.Omega.{arith}
-use native.Mathlib.Numerals.{add-one}
-use lib.Dec.{eqb}
-use lib.ListN.{length, take, drop, getD, set, length-set, length-append, take-append-drop}
-use lib.Seq.{take-at, drop-at, take-all, take-suc, drop-drop, length-take-le, getD-set-same, getD-set-other}
-use Rattle.layout.specs.Layout.{has-index, last-use-index, record-size, record-width, second-use-index}
+use lib.ListN.{length, take, drop, length-append, length-drop, take-append-drop}
+use lib.Seq.{take-at, drop-at, drop-drop, length-take-le, getD-drop}
+use Rattle.layout.specs.Layout.{record-size, record-width, slot-size, slot-width}
+use Rattle.model.specs.declared.delta_snapshot.Content.{Content}
+use Rattle.model.specs.Numbers.{Bytes}
+use Rattle.model.specs.Slots.{slot-words}
+use Rattle.model.specs.Contents.{content-words}
 use Rattle.model.specs.Layers.{Record, Layer}
-use Rattle.model.specs.Numbers.{be, num}
-use Rattle.model.proofs.NumberLaws.{length-be}
-use Rattle.model.proofs.SlotLaws.{split, not-both}
+use Rattle.model.proofs.ContentLaws.{content-wide}
 use Rattle.words.specs.Parts.{part, placed}
-use Rattle.image.specs.Image.{bytes-of, words-of, record-words, all-record-words, read-record}
-use Rattle.image.specs.Area.{records-of, with-records}
-use Rattle.image.proofs.Words.{length-bytes-of, length-words-of}
-use Rattle.image.proofs.Entries.{length-records}
+use Rattle.image.specs.Image.{bytes-of, words-of, record-words, all-record-words, read-slot}
+use Rattle.image.specs.Area.{with-records}
+use Rattle.image.proofs.Words.{length-bytes-of, bytes-of-words}
+use Rattle.image.proofs.Entries.{record-wide}
 use Rattle.records.proofs.Written.{bytes-append, placed-after}
-use Rattle.order.specs.Index.{no-record}
-use Rattle.order.proofs.RecordLaws.{record-at, word-at}
-use Rattle.order.specs.Walk.{has-value}
-use Rattle.fold.specs.Stored.{renewed, renewed-words, kept, stored, Stored}
+use Rattle.fold.specs.Stored.{renewed, kept, stored, Stored}
 
 -- A record's words --------------------------------------------------------------------------------------------------------
 
-module _ (u k at : ℕ) (s : List ℕ) where
-  abbrev old : List ℕ
-  old = words-of record-width (drop at s)
-
-  abbrev with-use : List ℕ
-  with-use = set old last-use-index u
-
-  abbrev with-flag : List ℕ
-  with-flag = set with-use has-index 1
-
-  length-old : length old ≡ record-width
-  length-old = length-words-of record-width (drop at s)
-
-  length-use : length with-use ≡ record-width
-  length-use = length-set old last-use-index u ∙ length-old
-
-  length-flag : length with-flag ≡ record-width
-  length-flag = length-set with-use has-index 1 ∙ length-use
-
-  pub word-use : k ≡ last-use-index → u ≡ getD (renewed-words u old) k 0
-  unfolding renewed-words
-  word-use e =
-      sym (ap (λ (i : ℕ). getD (set with-flag second-use-index 0) i 0) e
-      ∙ getD-set-other with-flag second-use-index last-use-index 0 0 (λ z. omega arith)
-      ∙ getD-set-other with-use has-index last-use-index 1 0 (λ z. omega arith) ∙ getD-set-same old last-use-index u 0 (omega (arith, length-old)))
-
-  pub word-flag : k ≡ has-index → 1 ≡ getD (renewed-words u old) k 0
-  unfolding renewed-words
-  word-flag e =
-      sym (ap (λ (i : ℕ). getD (set with-flag second-use-index 0) i 0) e
-      ∙ getD-set-other with-flag second-use-index has-index 0 0 (λ z. omega arith) ∙ getD-set-same with-use has-index 1 0 (omega (arith, length-use)))
-
-  pub word-second : k ≡ second-use-index → 0 ≡ getD (renewed-words u old) k 0
-  unfolding renewed-words
-  word-second e = sym (ap (λ (i : ℕ). getD (set with-flag second-use-index 0) i 0) e ∙ getD-set-same with-flag second-use-index 0 0 (omega (arith, length-flag)))
-
-  pub word-other : (k ≡ last-use-index → ⊥) → (k ≡ has-index → ⊥) → (k ≡ second-use-index → ⊥) → k < record-width → num (part (at + k * 8) 8 s) ≡ getD (renewed-words u old) k 0
-  unfolding renewed-words
-  word-other d e f h =
-      sym (getD-set-other with-flag second-use-index k 0 0 f ∙ getD-set-other with-use has-index k 1 0 e ∙ getD-set-other old last-use-index k u 0 d ∙ word-at record-width k at s h)
-
-pub length-renewed : (u : ℕ) (t : List ℕ) → length (renewed-words u (words-of record-width t)) ≡ record-width
-unfolding renewed-words
-length-renewed u t =
-    let w : List ℕ = words-of record-width t in
-    length-set (set (set w last-use-index u) has-index 1) second-use-index 0 ∙ length-set (set w last-use-index u) has-index 1 ∙ length-set w last-use-index u ∙ length-words-of record-width t
-
-renewed-explicit : (u a b c d e f g h i j k l m n : ℕ) → has-value (read-record (a ∷ b ∷ c ∷ d ∷ e ∷ f ∷ g ∷ h ∷ i ∷ j ∷ k ∷ l ∷ m ∷ n ∷ []) .content) ≡ true
-    → record-words (renewed u (read-record (a ∷ b ∷ c ∷ d ∷ e ∷ f ∷ g ∷ h ∷ i ∷ j ∷ k ∷ l ∷ m ∷ n ∷ []))) ≡ renewed-words u (a ∷ b ∷ c ∷ d ∷ e ∷ f ∷ g ∷ h ∷ i ∷ j ∷ k ∷ l ∷ m ∷ n ∷ [])
-unfolding renewed-words
-renewed-explicit u a b c d e f g h i j k l m n q = split (eqb i 0) (λ y. not-both q (rw y)) (λ y. rw y)
-
--- A record with a value, with another use, has these words.
-pub renewed-is : (u n i : ℕ) (s : List ℕ) → i < n → has-value (getD (records-of n s) i no-record .content) ≡ true
-    → renewed-words u (words-of record-width (drop (i * record-size) s)) ≡ record-words (renewed u (getD (records-of n s) i no-record))
+-- A slot's bytes, of which there are n, are those of its words.
+slot-bytes : (at n : ℕ) (s : List ℕ) → n ≡ slot-size → Bytes s → at + slot-size ≤ length s → part at n s ≡ bytes-of (slot-words (read-slot (words-of record-width (drop at s))))
 unfolding words-of
-renewed-is u n i s h e =
-    let q : getD (records-of n s) i no-record ≡ read-record (words-of record-width (drop (i * record-size) s)) = record-at n i s h in
-    sym (ap (λ (r : Record). record-words (renewed u r)) q ∙ renewed-explicit u _ _ _ _ _ _ _ _ _ _ _ _ _ _ (sym (ap (λ (r : Record). has-value (r .content)) q) ∙ e))
+slot-bytes at n s e b h =
+    ap (λ (k : ℕ). part at k s) e ∙ sym (bytes-of-words slot-width (drop at s) (λ j. rw getD-drop (b (at + j))) (omega (arith, length-drop at s)))
 
--- Words one after the other -------------------------------------------------------------------------------------------------
-
-pub placed-none : (at : ℕ) (w s : List ℕ) → s ≡ placed at (bytes-of (take 0 w)) s
-unfolding bytes-of
-placed-none at w s =
-    let e : at + 0 ≡ at = omega arith in
-    sym (ap₂ (λ (x : List ℕ) (k : ℕ). x ++ drop k s) (append-nil (take at s)) e ∙ take-append-drop at s)
-
-pub placed-word : (at k x : ℕ) (w s : List ℕ) {t u : List ℕ} → k < length w → at + length w * 8 ≤ length s → x ≡ getD w k 0 → t ≡ placed at (bytes-of (take k w)) s → u ≡ placed (at + k * 8) (be 8 x) t
-    → u ≡ placed at (bytes-of (take (k + 1) w)) s
-unfolding bytes-of
-placed-word at k x w s h l e f g =
-    let v : List ℕ = bytes-of (take k w) in
-    let n : length v ≡ k * 8 = length-bytes-of (take k w) ∙ omega (arith, length-take-le k w (omega arith)) in
-    let b : length (be 8 x) ≡ 8 = length-be 8 x in
-    let m : bytes-of (take (k + 1) w) ≡ v ++ be 8 x =
-    ap (λ (i : ℕ). bytes-of (take i w)) (add-one k) ∙ ap bytes-of (take-suc w k 0 h) ∙ bytes-append (take k w) (getD w k 0 ∷ [])
-    ∙ ap (λ (y : List ℕ). v ++ y) (append-nil (be 8 (getD w k 0)) ∙ ap (be 8) (sym e)) in
-    g ∙ ap (placed (at + k * 8) (be 8 x)) f ∙ placed-after at (at + k * 8) v (be 8 x) s (omega arith) (omega arith)
-    ∙ ap (λ (y : List ℕ). placed at y s) (sym m)
-
-pub placed-all : (at k : ℕ) (w s : List ℕ) {t : List ℕ} → length w ≤ k → t ≡ placed at (bytes-of (take k w)) s → t ≡ placed at (bytes-of w) s
-placed-all at k w s h e = e ∙ ap (λ (y : List ℕ). placed at (bytes-of y) s) (take-all k w h)
+-- A slot copied, and a content written after it.
+pub record-placed : (at from n : ℕ) (c : Content) (s o : List ℕ) {t u : List ℕ} → n ≡ slot-size → Bytes s → from + slot-size ≤ length s → at + record-size ≤ length o
+    → t ≡ placed at (part from n s) o → u ≡ placed (at + slot-size) (bytes-of (content-words c)) t
+    → u ≡ placed at (bytes-of (record-words (record { slot = read-slot (words-of record-width (drop from s)); content = c }))) o
+record-placed at from n c s o g b h k e f =
+    let v : List ℕ = slot-words (read-slot (words-of record-width (drop from s))) in
+    f ∙ ap (placed (at + slot-size) (bytes-of (content-words c))) (e ∙ ap (λ (x : List ℕ). placed at x o) (slot-bytes from n s g b h))
+    ∙ placed-after at (at + slot-size) (bytes-of v) (bytes-of (content-words c)) o (omega (arith, length-bytes-of v)) (omega (arith, length-bytes-of (content-words c), content-wide c))
+    ∙ ap (λ (x : List ℕ). placed at x o) (sym (bytes-append v (content-words c)))
 
 -- Records one after the other -----------------------------------------------------------------------------------------------
 
@@ -119,8 +48,7 @@ stored-nil c s =
     ap₂ (λ (x : List ℕ) (k : ℕ). x ++ drop k s) (append-nil (take (c * record-size) s)) e ∙ take-append-drop (c * record-size) s
 
 length-one : (r : Record) → length (bytes-of (record-words r)) ≡ record-size
-unfolding all-record-words
-length-one r = length-bytes-of (record-words r) ∙ omega (arith, ap length (append-nil (record-words r)), length-records (r ∷ []))
+length-one r = length-bytes-of (record-words r) ∙ omega (arith, record-wide r)
 
 one-record : (r : Record) → bytes-of (all-record-words (r ∷ [])) ≡ bytes-of (record-words r)
 unfolding all-record-words

@@ -1,6 +1,6 @@
 -- The fold's loop: what its walk has yet to give and to count, and a turn of it.
 use mathlib.Core.Path.{_≡_, refl, sym, ap, ap₂, _∙_}
-use mathlib.Core.Bool.{Bool, true, false, _||_, cond}
+use mathlib.Core.Bool.{Bool, true, false, cond}
 use mathlib.Core.List.{List, _++_}
 use Prim.Native.Nat.{ℕ, _+_, _*_, _≤_, _<_}
 use native.Mathlib.Omega.{arith}
@@ -9,11 +9,9 @@ use Rattle.layout.specs.Layout.{record-size}
 use Rattle.model.specs.declared.delta_snapshot.Retention.{Retention}
 use Rattle.model.specs.Layers.{Layer}
 use Rattle.model.specs.Advance.{lapsed}
-use Rattle.model.proofs.SlotLaws.{not-both}
 use Rattle.image.specs.Area.{records-of}
 use Rattle.order.specs.Index.{numbers, no-record, up-from, Ordered}
 use Rattle.order.proofs.RecordLaws.{Bytes}
-use Rattle.order.specs.Walk.{has-value}
 use Rattle.rules.specs.Rules.{group, freshest, oldest-use}
 use Rattle.order.specs.Walk.{last-of}
 use Rattle.order.proofs.WalkLaws.{walk}
@@ -55,12 +53,6 @@ choose-le false x y m h k = k
 pub choose-best : (rs : Layer) (b : Bool) (x y : ℕ) → getD rs (cond b x y) no-record ≡ cond b (getD rs x no-record) (getD rs y no-record)
 choose-best rs true x y = refl
 choose-best rs false x y = refl
-
-pub still-valued : (rs : Layer) (any has : Bool) (x y : ℕ) → has ≡ has-value (getD rs x no-record .content) → (any ≡ true → has-value (getD rs y no-record .content) ≡ true) → (any || has) ≡ true
-    → has-value (getD rs (cond has x y) no-record .content) ≡ true
-still-valued rs any true x y e f q = sym e
-still-valued rs true false x y e f q = f refl
-still-valued rs false false x y e f q = not-both q refl
 
 -- A turn, of the layer: at the last number of a slot what is left of it is stored, at another nothing.
 module _ (least n : ℕ) (s ix : List ℕ) (a : Best) (j : ℕ) (h : j < length ix) (c d m : ℕ) (out₀ out whole : List ℕ) (b b′ : Best)

@@ -4,19 +4,16 @@ use mathlib.Core.Path.{_≡_}
 use mathlib.Core.Bool.{Bool, cond}
 use mathlib.Core.List.{List, [], _∷_, _++_}
 use mathlib.Core.Option.{some}
-use lib.ListN.{length, take, drop, set}
-use Rattle.layout.specs.Layout.{has-index, last-use-index, record-size, second-use-index}
+use lib.ListN.{length, take, drop}
+use Rattle.layout.specs.Layout.{record-size}
 use Rattle.model.specs.Slots.{LastUse}
-use Rattle.model.specs.Layers.{Record, Layer, touch}
+use Rattle.model.specs.Contents.{touch}
+use Rattle.model.specs.Layers.{Record, Layer}
 use Rattle.image.specs.Image.{bytes-of, all-record-words}
 
 -- A record with another last use; its value stays.
 abbrev pub renewed : LastUse → Record → Record
 renewed u r = record { slot = r .slot; content = touch u (some (r .content)) }
-
--- The words of a record with another last use, and the flag of a value.
-unfoldable pub renewed-words : LastUse → List ℕ → List ℕ
-renewed-words u w = set (set (set w last-use-index u) has-index 1) second-use-index 0
 
 -- What is left of a slot: its newest record with a value, with the given use, or nothing.
 abbrev pub kept : Bool → LastUse → Record → Layer

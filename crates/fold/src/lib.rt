@@ -1,17 +1,17 @@
 // The fold of a base's layers into one, by one walk over the index of its records.
 use model::delta_snapshot::Retention;
 ghost use mathlib.Core.Path.{_≡_};
-ghost use mathlib.Core.Bool.{true, cond};
+ghost use mathlib.Core.Bool.{cond};
 ghost use Prim.Native.Nat.{_+_, _*_, _≤_, _<_};
-ghost use lib.ListN.{length, drop, getD};
-ghost use Rattle.layout.specs.Layout.{record-size, record-width};
+ghost use lib.ListN.{length, getD};
+ghost use Rattle.layout.specs.Layout.{record-size};
 ghost use Rattle.words.specs.Parts.{placed};
-ghost use Rattle.image.specs.Image.{words-of, bytes-of};
+ghost use Rattle.image.specs.Image.{bytes-of, record-words, read-record};
 ghost use Rattle.image.specs.Area.{records-of, with-records};
 ghost use Rattle.order.specs.Index.{numbers, no-record, Ordered, up-from};
-ghost use Rattle.order.specs.Walk.{has-value};
+ghost use Rattle.records.specs.Records.{words-at};
 ghost use Rattle.fold.specs.Fold.{folded, dropped-in};
-ghost use Rattle.fold.specs.Stored.{renewed-words, kept, Stored};
+ghost use Rattle.fold.specs.Stored.{renewed, kept, Stored};
 
 // How many slots a fold left and how many it dropped.
 pub struct Folded {
@@ -19,40 +19,21 @@ pub struct Folded {
     pub dropped: usize,
 }
 
-// Word k of record i with the last use `used`, the flag of a value, and no second use.
-fn word(s: &[u8], i: usize, used: u64, k: usize) -> u64
-    requires { ⌜ (i * record-size + record-size ≤ length (now s)) × (k < record-width) ⌝ }
-    ensures { λ r. ⌜ r ≡ getD (renewed-words used (words-of record-width (drop (i * record-size) (now (s .entry))))) k 0 ⌝ }
-{
-    if k == layout::LAST_USE_INDEX {
-        return used;
-    }
-    if k == layout::HAS_INDEX {
-        return 1;
-    }
-    if k == layout::SECOND_USE_INDEX {
-        return 0;
-    }
-    words::read_u64(s, i * layout::RECORD_SIZE + k * 8)
-}
-
-// Writes these words of record i as record c of the output.
+// Writes record i, used at `used`, as record c of the output.
 fn write_record(s: &[u8], i: usize, used: u64, out: &mut [u8], c: usize)
     requires { ⌜ (i * record-size + record-size ≤ length (now s)) × ((c + 1) * record-size ≤ length (now out)) ⌝ }
-    ensures { λ _. ⌜ now (out .exit) ≡ placed (c * record-size) (bytes-of (renewed-words used (words-of record-width (drop (i * record-size) (now (s .entry)))))) (now (out .entry)) ⌝ }
+    ensures { λ _. ⌜ now (out .exit) ≡ placed (c * record-size) (bytes-of (record-words (renewed used (read-record (words-at i (now (s .entry))))))) (now (out .entry)) ⌝ }
 {
-    let mut k = 0;
-    while k < layout::RECORD_WIDTH {
-        let x = word(s, i, used, k);
-        words::write_u64(out, c * layout::RECORD_SIZE + k * 8, x);
-        k += 1;
-    }
+    let from = i * layout::RECORD_SIZE;
+    let to = c * layout::RECORD_SIZE;
+    words::place(out, to, &s[from..from + layout::LAST_USE_OFFSET]);
+    let content = records::content(s, i);
+    records::write_content(out, to + layout::LAST_USE_OFFSET, content.touch(used));
 }
 
 // What is left of a slot, whose newest record with a value is record i, written as record c of the output: where the next goes.
 fn settle(s: &[u8], n: usize, i: usize, keep: bool, used: u64, out: &mut [u8], c: usize) -> usize
     requires { ⌜ (n * record-size ≤ length (now s)) × (i < n) × ((c + 1) * record-size ≤ length (now out)) ⌝ }
-    requires { ⌜ ((keep ≡ true) → (has-value (getD (records-of n (now s)) i no-record .content) ≡ true)) ⌝ }
     ensures { λ r. ⌜ Stored c r (kept keep used (getD (records-of n (now (s .entry))) i no-record)) (now (out .entry)) (now (out .exit)) ⌝ }
 {
     if keep {
@@ -62,6 +43,7 @@ fn settle(s: &[u8], n: usize, i: usize, keep: bool, used: u64, out: &mut [u8], c
     c
 }
 
+// The first of two where a flag is set, else the second.
 fn choose(b: bool, x: usize, y: usize) -> usize
     ensures { λ r. ⌜ r ≡ cond b x y ⌝ }
 {

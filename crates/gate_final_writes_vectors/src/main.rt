@@ -2,7 +2,7 @@
 ghost use Prim.Native.Nat.{_+_, _*_, _≤_};
 ghost use lib.ListN.{length};
 use bal_plan::Cap;
-use final_writes::FinalWritesAnswer;
+use final_writes::FinalWritesReply;
 use libc::STDOUT_FILENO;
 
 // What an output holds before a call.
@@ -42,12 +42,12 @@ fn cap(head: &[u8], k: usize) -> Cap
 }
 
 // Whether the answer is the recorded one.
-fn same_answer(answer: FinalWritesAnswer, head: &[u8]) -> bool
+fn same_answer(answer: FinalWritesReply, head: &[u8]) -> bool
     requires { ⌜ 128 ≤ length (now head) ⌝ }
 {
     match answer {
-        FinalWritesAnswer::No(n) => number(head, 11) == 0 && number(head, 12) == n,
-        FinalWritesAnswer::Seeded(s) => {
+        FinalWritesReply::Refused(n) => number(head, 11) == 0 && number(head, 12) == n,
+        FinalWritesReply::Seeded(s) => {
             number(head, 11) == 1
                 && number(head, 12) == s.writes
                 && number(head, 13) == s.reads

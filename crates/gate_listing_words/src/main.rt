@@ -92,7 +92,10 @@ fn advances() {
         48,
     );
     let mut cold = [46u8; 24];
-    let outcome = CarryOutcome::Cold(Lineage::ParentHashMismatch, BalSkip::Decode);
+    let outcome = CarryOutcome::Cold {
+        lineage: Lineage::ParentHashMismatch,
+        bal: BalSkip::Decode,
+    };
     let cold_end = listing::advance_line(&mut cold, 2, outcome, counts);
     compare(b"cold", &cold, cold_end, b"..cold 4 3 2 3 4 50 6\n..", 22);
 }

@@ -9,9 +9,9 @@ use model::delta_snapshot::Slot;
 use model::storage_memo::Address;
 use model::storage_memo::ReadAnchor;
 use model::storage_memo::U256;
-use unchecked_reads::AnswerAnswer;
-use unchecked_reads::ReadAnswer;
-use unchecked_reads::TakeAnswer;
+use store::AnswerReply;
+use store::ReadReply;
+use store::TakeReply;
 
 // The bytes of a store of four records.
 const STORE_SIZE: usize = layout::RECORDS_OFFSET + 4 * layout::RECORD_SIZE;
@@ -54,30 +54,34 @@ fn print_value(v: U256) {
     io::print_hex(STDOUT_FILENO, v.w3, 16);
 }
 
-fn print_read(label: &[u8], r: ReadAnswer) {
+fn print_read(label: &[u8], r: ReadReply) {
     say(label);
     match r {
-        ReadAnswer::No(n) => field(b"no", n),
-        ReadAnswer::Value(v) => print_value(v),
-        ReadAnswer::Wait(n) => field(b"wait", n),
+        ReadReply::Refused(n) => field(b"no", n),
+        ReadReply::Value(v) => print_value(v),
+        ReadReply::Waiting(n) => field(b"wait", n),
     }
     say(b"\n");
 }
 
-fn print_take(label: &[u8], r: TakeAnswer) {
+fn print_take(label: &[u8], r: TakeReply) {
     say(label);
     match r {
-        TakeAnswer::No(n) => field(b"no", n),
-        TakeAnswer::Listed(n) => field(b"take", n as u64),
+        TakeReply::Refused(n) => field(b"no", n),
+        TakeReply::Listed(n) => field(b"take", n),
     }
     say(b"\n");
 }
 
-fn print_answer(label: &[u8], r: AnswerAnswer) {
+fn print_answer(label: &[u8], r: AnswerReply) {
     say(label);
     match r {
-        AnswerAnswer::No(n) => field(b"no", n),
-        AnswerAnswer::Answered(members, errors, woken) => {
+        AnswerReply::Refused(n) => field(b"no", n),
+        AnswerReply::Answered {
+            members,
+            errors,
+            woken,
+        } => {
             field(b"members", members);
             field(b"errors", errors);
             field(b"woken", woken);

@@ -4,10 +4,10 @@ ghost use Prim.Native.Nat.{_≤_, _<_};
 ghost use lib.ListN.{length};
 use call_reader::CallRead;
 use call_reader::ListedCall;
-use call_run::Ran;
+use call_run::RunReply;
 use libc::STDOUT_FILENO;
 use reader::Cursor;
-use unchecked_advance::Advanced;
+use store::AdvanceReply;
 
 // The bytes of a store of 256 records.
 const STORE_SIZE: usize = layout::RECORDS_OFFSET + 256 * layout::RECORD_SIZE;
@@ -102,9 +102,17 @@ fn print_call(call: &[u8], s: &mut [u8]) -> bool {
         &mut members,
         &mut out,
     ) {
-        Ran::No(_) => false,
-        Ran::Listed(_, written, _) => print_lines(&out, written),
-        Ran::Broken(_, _, written) => print_lines(&out, written),
+        RunReply::Refused(_) => false,
+        RunReply::Listed {
+            next: _,
+            written,
+            ended: _,
+        } => print_lines(&out, written),
+        RunReply::Broken {
+            fault: _,
+            place: _,
+            written,
+        } => print_lines(&out, written),
     }
 }
 
@@ -173,7 +181,7 @@ fn print_advance(list: &[u8], call: ListedCall, before: &mut [u8], after: &[u8])
     if !same(before, after) {
         say(b"the bytes differ\n");
     }
-    let Advanced::Done(report) = answer else {
+    let AdvanceReply::Advanced(report) = answer else {
         return;
     };
     let counts = report.writes;

@@ -7,12 +7,12 @@ use model::delta_snapshot::Slot;
 use model::storage_memo::Address;
 use model::storage_memo::ReadAnchor;
 use model::storage_memo::U256;
-use unchecked_calls::Installed;
-use unchecked_calls::Looked;
-use unchecked_calls::Opened;
-use unchecked_calls::PutAnswer;
-use unchecked_reads::ReadAnswer;
-use unchecked_reads::TakeAnswer;
+use store::InstallReply;
+use store::LookReply;
+use store::OpenReply;
+use store::PutReply;
+use store::ReadReply;
+use store::TakeReply;
 ghost use mathlib.Core.Path.{_≡_};
 ghost use Prim.Native.Nat.{_+_, _≤_, _<_};
 ghost use lib.ListN.{length};
@@ -70,26 +70,26 @@ fn print(label: &[u8], n: u64) {
 }
 
 // A refusal's number, or 0.
-fn opened(r: Opened) -> u64 {
+fn opened(r: OpenReply) -> u64 {
     match r {
-        Opened::No(n) => n,
-        Opened::Open => 0,
+        OpenReply::Refused(n) => n,
+        OpenReply::Opened => 0,
     }
 }
 
-fn stored(r: PutAnswer) -> u64 {
+fn stored(r: PutReply) -> u64 {
     match r {
-        PutAnswer::No(n) => n,
-        PutAnswer::Stored => 0,
+        PutReply::Refused(n) => n,
+        PutReply::Stored => 0,
     }
 }
 
 // A refusal's number, 100 for the same anchor, 101 for another.
-fn installed(r: Installed) -> u64 {
+fn installed(r: InstallReply) -> u64 {
     match r {
-        Installed::No(n) => n,
-        Installed::Same => 100,
-        Installed::Fresh => 101,
+        InstallReply::Refused(n) => n,
+        InstallReply::Same => 100,
+        InstallReply::Fresh => 101,
     }
 }
 
@@ -98,11 +98,11 @@ fn is_same(a: U256, b: U256) -> bool {
 }
 
 // A refusal's number, 100 for none, 1,000 and n for the value n below 1,000, 999 for any other value.
-fn looked(r: Looked) -> u64 {
+fn looked(r: LookReply) -> u64 {
     match r {
-        Looked::No(n) => n,
-        Looked::Nothing => 100,
-        Looked::Value(v) => {
+        LookReply::Refused(n) => n,
+        LookReply::Nothing => 100,
+        LookReply::Value(v) => {
             if !is_same(v, word(v.w3 % 1000)) {
                 return 999;
             }
@@ -114,14 +114,14 @@ fn looked(r: Looked) -> u64 {
 // What a look of slot 1 answers.
 fn look_again(s: &[u8], anchor: ReadAnchor) -> Seen {
     match store::look(s, anchor, slot(1)) {
-        Looked::No(n) => {
+        LookReply::Refused(n) => {
             if n == 20 {
                 return Seen::NoStore;
             }
             Seen::Refused
         }
-        Looked::Nothing => Seen::Nothing,
-        Looked::Value(v) => {
+        LookReply::Nothing => Seen::Nothing,
+        LookReply::Value(v) => {
             if is_same(v, word(7)) {
                 return Seen::Same;
             }
@@ -131,19 +131,19 @@ fn look_again(s: &[u8], anchor: ReadAnchor) -> Seen {
 }
 
 // A refusal's number, 1,000 for a value, or 100 and the waiters.
-fn waits(r: ReadAnswer) -> u64 {
+fn waits(r: ReadReply) -> u64 {
     match r {
-        ReadAnswer::No(n) => n,
-        ReadAnswer::Value(_) => 1000,
-        ReadAnswer::Wait(n) => 100 + n % 100,
+        ReadReply::Refused(n) => n,
+        ReadReply::Value(_) => 1000,
+        ReadReply::Waiting(n) => 100 + n % 100,
     }
 }
 
 // A refusal's number, or 100 and the slots listed.
-fn listed(r: TakeAnswer) -> u64 {
+fn listed(r: TakeReply) -> u64 {
     match r {
-        TakeAnswer::No(n) => n,
-        TakeAnswer::Listed(n) => 100 + n as u64 % 100,
+        TakeReply::Refused(n) => n,
+        TakeReply::Listed(n) => 100 + n % 100,
     }
 }
 

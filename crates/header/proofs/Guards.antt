@@ -7,7 +7,7 @@ use mathlib.Core.Option.{Option, some, none}
 use native.Mathlib.Omega.{arith}
 use Rattle.model.specs.declared.storage_memo.ReadAnchor.{ReadAnchor}
 use Rattle.model.specs.Slots.{anchor-eqb}
-use Rattle.model.specs.Layers.{is-some}
+use Rattle.model.specs.Contents.{is-some}
 use Rattle.model.specs.Store.{Generation}
 use Rattle.image.specs.Lent.{store-of, generation-of, IsStore, Installed}
 use Rattle.image.proofs.Lent.{installed, generation-is}

@@ -15,10 +15,11 @@ use Rattle.model.specs.declared.storage_memo.BlockHash.the-variants.{Unknown, K
 use Rattle.model.specs.declared.delta_snapshot.Retention.{Retention}
 use Rattle.model.specs.declared.delta_snapshot.Retention.the-variants.{Unbounded, IdleBlocks}
 use Rattle.model.specs.Numbers.{num}
-use Rattle.model.specs.Layers.{Record, Layer, held-value, freshest-use, record-count}
+use Rattle.model.specs.Layers.{LayerOf, Record, Layer, held-value, freshest-use, record-count}
 use Rattle.model.specs.Store.{Config, Generation, Store, chain}
 use Rattle.model.proofs.SlotLaws.{split, and-left, and-right, and-intro}
-use Rattle.image.specs.WellFormed.{slot-fits, content-fits, every, rising, content-ok, chain-ok, installed-ok, well-formed}
+use Rattle.model.specs.Contents.{content-fits, content-ok}
+use Rattle.image.specs.WellFormed.{slot-fits, every, rising, chain-ok, installed-ok, well-formed}
 use Rattle.model.specs.Refusals.{store-words}
 use Rattle.image.specs.Image.{words-of, retention-words, hash-words, totals-words, record-words, all-record-words, all-pending-words, flat-records, layer-ends, padded, config-words, generation-words, table-words, installed-words, image-words, read-record, read-pending, entries, read-hash, decode}
 use Rattle.image.specs.Area.{records-of, pending-of, layers-below}
@@ -58,10 +59,10 @@ words-part (suc m) n (suc k) b h =
 
 -- Layers and their records ----------------------------------------------------------------------------
 
-flat-append : (xs ys : List Layer) → flat-records (xs ++ ys) ≡ flat-records ys ++ flat-records xs
+flat-append : {A : Type 0} (xs ys : List (LayerOf A)) → flat-records (xs ++ ys) ≡ flat-records ys ++ flat-records xs
 unfolding flat-records
-flat-append [] ys = sym (append-nil (flat-records ys))
-flat-append (x ∷ xs) ys = ap (λ (l : List Record). l ++ x) (flat-append xs ys) ∙ append-assoc (flat-records ys) (flat-records xs) x
+flat-append {A} [] ys = sym (append-nil (flat-records ys))
+flat-append {A} (x ∷ xs) ys = ap (λ (l : LayerOf A). l ++ x) (flat-append xs ys) ∙ append-assoc (flat-records ys) (flat-records xs) x
 
 pub words-append : (xs ys : List Record) → all-record-words (xs ++ ys) ≡ all-record-words xs ++ all-record-words ys
 unfolding all-record-words
@@ -69,7 +70,7 @@ words-append [] ys = refl
 words-append (r ∷ xs) ys = ap (λ (l : List ℕ). record-words r ++ l) (words-append xs ys) ∙ sym (append-assoc (record-words r) (all-record-words xs) (all-record-words ys))
 
 -- The records of a layer l over the layers ls and under the layers p.
-flat-split : (p : List Layer) (l : Layer) (ls : List Layer) → flat-records (p ++ (l ∷ ls)) ≡ flat-records ls ++ (l ++ flat-records p)
+flat-split : {A : Type 0} (p : List (LayerOf A)) (l : LayerOf A) (ls : List (LayerOf A)) → flat-records (p ++ (l ∷ ls)) ≡ flat-records ls ++ (l ++ flat-records p)
 unfolding flat-records
 flat-split p l ls = flat-append p (l ∷ ls) ∙ append-assoc (flat-records ls) l (flat-records p)
 
@@ -92,7 +93,7 @@ read-layer : (l : Layer) → map read-record (entries record-width (length l) (a
 read-layer l = ap (λ (w : List ℕ). map read-record (entries record-width (length l) w)) (sym (append-nil (all-record-words l))) ∙ read-records l []
 
 -- The number of records of some layers is at least that of one and those below it.
-count-split : (p : List Layer) (l : Layer) (ls : List Layer) → record-count ls + length l ≤ record-count (p ++ (l ∷ ls))
+count-split : {A : Type 0} (p : List (LayerOf A)) (l : LayerOf A) (ls : List (LayerOf A)) → record-count ls + length l ≤ record-count (p ++ (l ∷ ls))
 unfolding record-count
 count-split [] l ls = omega arith
 count-split (x ∷ p) l ls = omega (arith, count-split p l ls)
@@ -132,19 +133,19 @@ narrow (r ∷ l) e =
 
 -- Layer ends ------------------------------------------------------------------------------------------
 
-pub below-suc : (k : ℕ) (b : List Layer) → k < length b → layers-below (suc k) b ≡ layer-of k b ∷ layers-below k b
+pub below-suc : {A : Type 0} (k : ℕ) (b : List (LayerOf A)) → k < length b → layers-below (suc k) b ≡ layer-of k b ∷ layers-below k b
 below-suc k b h =
     let e : suc (length b - suc k) ≡ length b - k = omega arith in
     drop-cons b (length b - suc k) [] (omega arith) ∙ ap (λ (i : ℕ). layer-of k b ∷ drop i b) e
 
-pub below-none : (b : List Layer) → layers-below 0 b ≡ []
+pub below-none : {A : Type 0} (b : List (LayerOf A)) → layers-below 0 b ≡ []
 below-none b = let e : length b - 0 ≡ length b = omega arith in ap (λ (i : ℕ). drop i b) e ∙ drop-length b
 
-pub below-all : (b : List Layer) → layers-below (length b) b ≡ b
+pub below-all : {A : Type 0} (b : List (LayerOf A)) → layers-below (length b) b ≡ b
 below-all b = let e : length b - length b ≡ 0 = omega arith in ap (λ (i : ℕ). drop i b) e
 
 -- The end of the layer of number k.
-ends-at : (ls : List Layer) (k : ℕ) → k < length ls → getD (layer-ends ls) k 0 ≡ record-count (layers-below (suc k) ls)
+ends-at : {A : Type 0} (ls : List (LayerOf A)) (k : ℕ) → k < length ls → getD (layer-ends ls) k 0 ≡ record-count (layers-below (suc k) ls)
 unfolding layer-ends
 ends-at [] k h = absurd (omega arith)
 ends-at (l ∷ ls) k h =

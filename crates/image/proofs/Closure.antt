@@ -9,19 +9,18 @@ use lib.Dec.{eqb, leb, ltb}
 use lib.ListN.{length}
 use borrow.Author.Tests.{le-leb, ltb-true, ltb-false, lt-ltb, eqb-false}
 use Rattle.model.specs.declared.delta_snapshot.Slot.{Slot}
-use Rattle.model.specs.declared.storage_memo.Address.{Address}
 use Rattle.model.specs.declared.storage_memo.ReadAnchor.{ReadAnchor}
 use Rattle.model.specs.declared.delta_snapshot.Retention.{Retention}
-use Rattle.model.specs.Slots.{Value, anchor-eqb}
-use Rattle.model.specs.Layers.{Layer, is-some, record-count}
+use Rattle.model.specs.Slots.{Value, anchor-eqb, fits-64}
+use Rattle.model.specs.Contents.{is-some}
+use Rattle.model.specs.Layers.{Layer, record-count}
 use Rattle.model.specs.declared.read_hub.ReadTotals.{ReadTotals}
 use Rattle.model.specs.declared.read_hub.Lineage.{Lineage}
-use Rattle.model.specs.declared.bal_prefetch.BalSkip.{BalSkip}
-use Rattle.model.specs.Advance.{skip-of, classify-link, carries, void-base, compact, compact-if, compact-base, is-void, seal, Write, seed-final-writes}
+use Rattle.model.specs.Advance.{skip-of, classify-link, carries, void-base, compact, compact-if, compact-base, is-void, seal, seed-final-writes}
 use Rattle.model.specs.Reads.{Pending, is-awaiting, woken, refused-slots, valued-slots}
-use Rattle.model.specs.Store.{Config, Generation, AnchoredCall, look, get, put, read, take, answer, answer-failed, StoreCall, install, advance, at-anchor, Call, open-store, on-store, chain, resolved, new-generation, with-reads, carry, cold-advance, touched-top, perform-get, perform-read, perform-answer, perform-at, perform-some, perform-none, perform, Memory, accept}
+use Rattle.model.specs.Store.{Config, Generation, look, get, put, read, AnchoredCall, on-slot, take, answer, answer-failed, Prepared, StoreCall, install, advance, at-anchor, Call, open-store, on-store, chain, resolved, new-generation, with-reads, carry, cold-advance, touched-top, perform-get, perform-read, perform-answer, perform-at, perform-some, perform-none, perform, Memory, accept}
 use Rattle.model.specs.Refusals.{Lent, answered-slots, if-installed, refusal, conclude, step, capacity-out-of-range, depth-out-of-range, answer-names-twice, answered-not-taken, reads-exhausted, queue-full, over-capacity}
-use Rattle.image.specs.WellFormed.{fits-64, anchor-fits, retention-fits, slot-fits, every, records-ok, chain-ok, config-ok, sizes-ok, generation-ok, installed-ok, well-formed}
+use Rattle.image.specs.WellFormed.{anchor-fits, retention-fits, slot-fits, every, records-ok, chain-ok, config-ok, sizes-ok, generation-ok, installed-ok, well-formed}
 use Rattle.image.specs.Claims.{writes-fit, anchored-fits, store-call-fits, call-fits, memory-ok, Closure}
 use Rattle.model.proofs.SlotLaws.{split, not-both, and-left, and-right, and-intro, or-false-left, or-false-right}
 use Rattle.model.proofs.Acceptance.{Unrefused, unrefused}
@@ -104,26 +103,26 @@ length-seal : (t : Layer) (b : List Layer) → (0 < length (seal t b)) × (lengt
 unfolding seal
 length-seal t b = split (is-void b) (λ e. rw e (omega arith, omega arith)) (λ e. rw e (omega arith, omega arith))
 
-module _ (cfg : Config) (child : ReadAnchor) (relevance : List Address) (ws : List Write) (child-fits : anchor-fits child ≡ true) (writes : writes-fit ws ≡ true) where
+module _ (cfg : Config) (child : ReadAnchor) (p : Prepared) (child-fits : anchor-fits child ≡ true) (writes : writes-fit (p .writes) ≡ true) where
   -- An advance's, over the base that it starts from.
-  seeded-ok : (b : List Layer) → 0 < length b → length b ≤ suc (cfg .max-depth) → chain-ok (child .number) b ≡ true → GenerationOk cfg (new-generation child b (seed-final-writes (cfg .retention) (child .number) relevance b ws [] .top))
-  seeded-ok b p q k =
-      new-ok cfg child b _ child-fits p q
-      (top-ok-seed-final-writes (cfg .retention) (child .number) relevance b ws [] (number-fits child child-fits) writes (top-ok-empty (cfg .retention) (child .number) b k))
+  seeded-ok : (b : List Layer) → 0 < length b → length b ≤ suc (cfg .max-depth) → chain-ok (child .number) b ≡ true → GenerationOk cfg (new-generation child b (seed-final-writes (cfg .retention) (child .number) (p .relevance) b (p .writes) [] .top))
+  seeded-ok b some-layer q k =
+      new-ok cfg child b _ child-fits some-layer q
+      (top-ok-seed-final-writes (cfg .retention) (child .number) (p .relevance) b (p .writes) [] (number-fits child child-fits) writes (top-ok-empty (cfg .retention) (child .number) b k))
 
-  cold-ok : (l : Lineage) (k : BalSkip) → InstalledOk cfg (cold-advance cfg child l k relevance ws .installed)
+  cold-ok : (l : Lineage) → InstalledOk cfg (cold-advance cfg child l p .installed)
   unfolding cold-advance
-  cold-ok l k = seeded-ok void-base (omega arith) (omega arith) (void-base-ok (child .number))
+  cold-ok l = seeded-ok void-base (omega arith) (omega arith) (void-base-ok (child .number))
 
-  pub carry-ok : (p : Generation) → GenerationOk cfg p → 0 < cfg .max-depth → child .number ≡ suc (p .anchor .number) → InstalledOk cfg (carry cfg p child relevance ws .installed)
+  pub carry-ok : (g : Generation) → GenerationOk cfg g → 0 < cfg .max-depth → child .number ≡ suc (g .anchor .number) → InstalledOk cfg (carry cfg g child p .installed)
   unfolding carry compact-base
-  carry-ok p k h e =
-      let n : ℕ = p .anchor .number in
-      let due : Bool = ltb (cfg .max-depth) (length (p .base)) in
-      let f : List Layer = compact-if due (cfg .retention) n (p .base) .base in
-      let z = length-seal (p .top) f in
-      seeded-ok (seal (p .top) f) (z .0) (omega (arith, z .1, length-compact (cfg .retention) n (cfg .max-depth) (p .base) h))
-      (rw e (carried-base-ok (cfg .retention) n due (p .base) (p .top) (number-fits (p .anchor) (k .anchor-fit)) (k .records-right)))
+  carry-ok g k h e =
+      let n : ℕ = g .anchor .number in
+      let due : Bool = ltb (cfg .max-depth) (length (g .base)) in
+      let f : List Layer = compact-if due (cfg .retention) n (g .base) .base in
+      let z = length-seal (g .top) f in
+      seeded-ok (seal (g .top) f) (z .0) (omega (arith, z .1, length-compact (cfg .retention) n (cfg .max-depth) (g .base) h))
+      (rw e (carried-base-ok (cfg .retention) n due (g .base) (g .top) (number-fits (g .anchor) (k .anchor-fit)) (k .records-right)))
 
 -- Calls that name an anchor ---------------------------------------------------------------------------
 
@@ -147,7 +146,7 @@ module _ (cfg : Config) (g : Generation) (k : GenerationOk cfg g) where
   get-ok s f (some x) e = changed-ok _ _ _ (touched-ok s x f e) (k .reads-right)
 
   module _ (l : Lent) (a : ReadAnchor) where
-    read-ok : (s : Slot) → slot-fits s ≡ true → Unrefused (memory-of cfg (some g)) l (on-store (at-anchor a (read s))) → (o : Option Value) → resolved (cfg .retention) g s ≡ o → InstalledOk cfg (perform-read g s o .installed)
+    read-ok : (s : Slot) → slot-fits s ≡ true → Unrefused (memory-of cfg (some g)) l (on-store (at-anchor a (on-slot (read s)))) → (o : Option Value) → resolved (cfg .retention) g s ≡ o → InstalledOk cfg (perform-read g s o .installed)
     unfolding reads-exhausted queue-full
     read-ok s f r none e =
         let room : (not (is-some (resolved (cfg .retention) g s)) && not (is-awaiting s (g .pending)) && leb 64 (length (g .pending))) ≡ false = r .queue-has-room in
@@ -163,10 +162,10 @@ module _ (cfg : Config) (g : Generation) (k : GenerationOk cfg g) where
         (reads-ok-answer (g .pending) (g .totals) (k .reads-right) (answered-slots c) vs rs e (r .answer-names-once) (not-false _ (r .answered-taken)) w n)
 
     at-ok : (c : AnchoredCall) → anchored-fits c ≡ true → Unrefused (memory-of cfg (some g)) l (on-store (at-anchor a c)) → InstalledOk cfg (perform-at cfg g c .installed)
-    at-ok (look s) f r = k
-    at-ok (get s) f r = get-ok s f (resolved (cfg .retention) g s) refl
-    at-ok (put s v) f r = changed-ok _ _ _ (top-ok-settle (g .top) (k .records-right) number-fit s (and-left (slot-fits s) _ f) v (and-right (slot-fits s) _ f)) (k .reads-right)
-    at-ok (read s) f r = read-ok s f r (resolved (cfg .retention) g s) refl
+    at-ok (on-slot (look s)) f r = k
+    at-ok (on-slot (get s)) f r = get-ok s f (resolved (cfg .retention) g s) refl
+    at-ok (on-slot (put s v)) f r = changed-ok _ _ _ (top-ok-settle (g .top) (k .records-right) number-fit s (and-left (slot-fits s) _ f) v (and-right (slot-fits s) _ f)) (k .reads-right)
+    at-ok (on-slot (read s)) f r = read-ok s f r (resolved (cfg .retention) g s) refl
     at-ok take f r = changed-ok _ _ _ (k .records-right) (reads-ok-take (g .pending) (g .totals) (k .reads-right))
     at-ok (answer ms) f r =
         answer-ok (answer ms) _ (valued-slots ms) (refused-slots ms) (length (refused-slots ms)) r
@@ -178,19 +177,19 @@ module _ (cfg : Config) (g : Generation) (k : GenerationOk cfg g) where
 -- With a generation installed, and with none.
 perform-some-ok : (cfg : Config) (g : Generation) (l : Lent) (c : StoreCall) → 0 < cfg .max-depth → GenerationOk cfg g → store-call-fits c ≡ true → Unrefused (memory-of cfg (some g)) l (on-store c) → InstalledOk cfg (perform-some cfg g c .installed)
 perform-some-ok cfg g l (install a) d k f r = split (anchor-eqb (g .anchor) a) (λ e. rw e k) (λ e. rw e (fresh-ok cfg a f))
-perform-some-ok cfg g l (advance child h s relevance ws) d k f r =
+perform-some-ok cfg g l (advance child h p) d k f r =
     let q : Lineage = classify-link (some (g .anchor)) child h in
     let cf : anchor-fits child ≡ true = and-left (anchor-fits child) _ f in
-    let wf : writes-fit ws ≡ true = and-right (anchor-fits child) _ f in
+    let wf : writes-fit (p .writes) ≡ true = and-right (anchor-fits child) _ f in
     split (anchor-eqb (g .anchor) child) (λ e. rw e k) (λ e. rw e
-    (split (carries q (skip-of s))
-    (λ y. rw y (carry-ok cfg child relevance ws cf wf g k d (linked (g .anchor) child h (carries-both q (skip-of s) y .0) .0)))
-    (λ y. rw y (cold-ok cfg child relevance ws cf wf q (skip-of s)))))
+    (split (carries q (skip-of (p .skip)))
+    (λ y. rw y (carry-ok cfg child p cf wf g k d (linked (g .anchor) child h (carries-both q (skip-of (p .skip)) y .0) .0)))
+    (λ y. rw y (cold-ok cfg child p cf wf q))))
 perform-some-ok cfg g l (at-anchor a c) d k f r = at-ok cfg g k l a c f r
 
 perform-none-ok : (cfg : Config) (c : StoreCall) → store-call-fits c ≡ true → InstalledOk cfg (perform-none cfg c .installed)
 perform-none-ok cfg (install a) f = fresh-ok cfg a f
-perform-none-ok cfg (advance child h s relevance ws) f = cold-ok cfg child relevance ws (and-left (anchor-fits child) _ f) (and-right (anchor-fits child) _ f) _ _
+perform-none-ok cfg (advance child h p) f = cold-ok cfg child p (and-left (anchor-fits child) _ f) (and-right (anchor-fits child) _ f) _
 perform-none-ok cfg (at-anchor a c) f = tt
 
 perform-ok : (cfg : Config) (o : Option Generation) (l : Lent) (c : StoreCall) → 0 < cfg .max-depth → installed-ok cfg o ≡ true → store-call-fits c ≡ true → Unrefused (memory-of cfg o) l (on-store c) → InstalledOk cfg (perform cfg o c .installed)

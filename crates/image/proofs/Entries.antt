@@ -10,15 +10,17 @@ use lib.Seq.{take-at, drop-at}
 use borrow.Author.Tests.{ltb-true}
 use Rattle.layout.specs.Layout.{awaiting-width, record-width}
 use Rattle.model.specs.declared.storage_memo.Address.{Address}
-use Rattle.model.specs.declared.storage_memo.U256.{U256}
 use Rattle.model.specs.declared.delta_snapshot.Slot.{Slot}
-use Rattle.model.specs.Slots.{slot-words, u256-words, slot-ltb}
-use Rattle.model.specs.Layers.{Content, use-only, valued, Record, Layer, held-value, freshest-use, record-count}
+use Rattle.model.specs.Slots.{slot-words, slot-ltb, fits-64, u256-fits}
+use Rattle.model.specs.declared.delta_snapshot.Content.{Content}
+use Rattle.model.specs.Contents.{content-fits, content-ok, content-words}
+use Rattle.model.specs.Layers.{LayerOf, Record, Layer, held-value, freshest-use, record-count}
 use Rattle.model.specs.Reads.{Pending}
 use Rattle.model.proofs.SlotLaws.{and-left, and-right, and-intro}
-use Rattle.image.specs.WellFormed.{fits-64, u256-fits, slot-fits, content-fits, every, chain-ok, pending-ok-from, pending-ok, all-waiters, rising, content-ok}
-use Rattle.image.specs.Image.{flag, content-words, record-words, pending-words, all-record-words, all-pending-words, flat-records, layer-ends, read-record, read-pending, entries, cut}
-use Rattle.image.proofs.Words.{Fit, fit-nil, fit-cons, fit-append}
+use Rattle.image.specs.WellFormed.{slot-fits, every, chain-ok, pending-ok-from, pending-ok, all-waiters, rising}
+use Rattle.image.specs.Image.{flag, record-words, pending-words, all-record-words, all-pending-words, flat-records, layer-ends, read-record, read-pending, entries, cut}
+use Rattle.model.proofs.WordLaws.{Fit, fit-nil, fit-cons, fit-append, fits, fit-and, fit-u256}
+use Rattle.model.proofs.ContentLaws.{content-wide, content-back, fit-content}
 
 -- Entries of any kind ---------------------------------------------------------------------------------
 
@@ -45,16 +47,6 @@ module _ {A : Type 0} (w : ℕ) (f : A → List ℕ) (wide : (a : A) → length 
 
 -- Fitting ---------------------------------------------------------------------------------------------
 
-pub fits : (x : ℕ) → fits-64 x ≡ true → x < 2 ^ 64
-fits x e = ltb-true x (2 ^ 64) e
-
--- A word that fits, and those after it.
-pub fit-and : {xs : List ℕ} (x : ℕ) (t : Bool) → (fits-64 x && t) ≡ true → (t ≡ true → Fit xs) → Fit (x ∷ xs)
-fit-and x t e k = fit-cons (fits x (and-left (fits-64 x) t e)) (k (and-right (fits-64 x) t e))
-
-pub fit-u256 : (x : U256) → u256-fits x ≡ true → Fit (u256-words x)
-fit-u256 x e = fit-and (x .w0) _ e (λ e₁. fit-and (x .w1) _ e₁ (λ e₂. fit-and (x .w2) _ e₂ (λ e₃. fit-cons (fits (x .w3) e₃) fit-nil)))
-
 fit-slot : (s : Slot) → slot-fits s ≡ true → Fit (slot-words s)
 unfolding slot-fits
 fit-slot s e =
@@ -65,32 +57,26 @@ fit-slot s e =
     let h : a .w0 < 2 ^ 64 = omega (arith, ltb-true (a .w0) (2 ^ 32) (and-left (ltb (a .w0) (2 ^ 32)) low p)) in
     fit-cons h (fit-and (a .w1) _ q (λ e₁. fit-cons (fits (a .w2) e₁) (fit-u256 (s .index) (and-right (ltb (a .w0) (2 ^ 32) && low) (u256-fits (s .index)) e))))
 
-fit-content : (c : Content) → content-fits c ≡ true → Fit (content-words c)
-fit-content (use-only u) e = let z : _<_ 0 (2 ^ 64) = lit< tt in fit-cons (fits u e) (fit-cons z (fit-cons z (fit-cons z (fit-cons z (fit-cons z (fit-cons z fit-nil))))))
-fit-content (valued u v) e = fit-and u _ e (λ e₁. fit-cons (lit< tt) (fit-append (fit-u256 v e₁) (fit-cons (lit< tt) fit-nil)))
-
 -- Records ---------------------------------------------------------------------------------------------
 
-record-wide : (s : Slot) (c : Content) → length (record-words (record { slot = s; content = c })) ≡ record-width
-record-wide s (use-only u) = refl
-record-wide s (valued u v) = refl
+pub record-wide : (r : Record) → length (record-words r) ≡ record-width
+record-wide r = length-append (slot-words (r .slot)) (content-words (r .content)) ∙ omega (arith, content-wide (r .content))
 
-record-back : (s : Slot) (c : Content) → read-record (record-words (record { slot = s; content = c })) ≡ record { slot = s; content = c }
-record-back s (use-only u) = refl
-record-back s (valued u v) = refl
+record-back : (r : Record) → read-record (record-words r) ≡ r
+record-back r = ap (λ (c : Content). record { slot = r .slot; content = c }) (content-back (r .content))
 
-records-joined : (rs : List Record) → all-record-words rs ≡ joined record-words rs
+pub records-joined : (rs : List Record) → all-record-words rs ≡ joined record-words rs
 unfolding all-record-words joined
 records-joined [] = refl
 records-joined (r ∷ rs) = ap (λ (l : List ℕ). record-words r ++ l) (records-joined rs)
 
 pub length-records : (rs : List Record) → length (all-record-words rs) ≡ record-width * length rs
-length-records rs = ap length (records-joined rs) ∙ length-joined record-width record-words (λ r. record-wide (r .slot) (r .content)) rs
+length-records rs = ap length (records-joined rs) ∙ length-joined record-width record-words record-wide rs
 
 pub read-records : (rs : List Record) (rest : List ℕ) → map read-record (entries record-width (length rs) (all-record-words rs ++ rest)) ≡ rs
 read-records rs rest =
     ap (λ (l : List ℕ). map read-record (entries record-width (length rs) (l ++ rest))) (records-joined rs)
-    ∙ read-joined record-width record-words (λ r. record-wide (r .slot) (r .content)) read-record (λ r. record-back (r .slot) (r .content)) rs rest
+    ∙ read-joined record-width record-words record-wide read-record record-back rs rest
 
 -- Every record of a layer fits.
 abbrev fitting : Layer → Bool
@@ -105,7 +91,7 @@ fit-records (r ∷ rs) e =
     let p : (x && y) ≡ true = and-left (x && y) (fitting rs) e in
     fit-append (fit-append (fit-slot (r .slot) (and-left x y p)) (fit-content (r .content) (and-right x y p))) (fit-records rs (and-right (x && y) (fitting rs) e))
 
-every-append : (p : Slot → Content → Bool) (k l : Layer) → every p k ≡ true → every p l ≡ true → every p (k ++ l) ≡ true
+every-append : {A : Type 0} (p : Slot → A → Bool) (k l : LayerOf A) → every p k ≡ true → every p l ≡ true → every p (k ++ l) ≡ true
 unfolding every
 every-append p [] l e f = f
 every-append p (r ∷ k) l e f =
@@ -126,33 +112,33 @@ fit-chain now ls e = fit-records (flat-records ls) (flat-fitting now ls e)
 
 -- Layers ----------------------------------------------------------------------------------------------
 
-pub length-flat : (ls : List Layer) → length (flat-records ls) ≡ record-count ls
+pub length-flat : {A : Type 0} (ls : List (LayerOf A)) → length (flat-records ls) ≡ record-count ls
 unfolding flat-records record-count
 length-flat [] = refl
 length-flat (l ∷ ls) = length-append (flat-records ls) l ∙ omega (arith, length-flat ls)
 
-pub length-ends : (ls : List Layer) → length (layer-ends ls) ≡ length ls
+pub length-ends : {A : Type 0} (ls : List (LayerOf A)) → length (layer-ends ls) ≡ length ls
 unfolding layer-ends
 length-ends [] = refl
 length-ends (l ∷ ls) = length-append (layer-ends ls) (record-count (l ∷ ls) ∷ []) ∙ omega (arith, length-ends ls)
 
-pub fit-ends : (ls : List Layer) → record-count ls < 2 ^ 64 → Fit (layer-ends ls)
+pub fit-ends : {A : Type 0} (ls : List (LayerOf A)) → record-count ls < 2 ^ 64 → Fit (layer-ends ls)
 unfolding layer-ends record-count
 fit-ends [] h = fit-nil
 fit-ends (l ∷ ls) h = fit-append (fit-ends ls (omega arith)) (fit-cons h fit-nil)
 
 -- The ends of some layers cut the records of those layers off; what is above them is cut next.
-cut-off : (ls : List Layer) (es : List ℕ) (rest : List Record) → cut 0 (layer-ends ls ++ es) (flat-records ls ++ rest) [] ≡ cut (record-count ls) es rest ls
+cut-off : {A : Type 0} (ls : List (LayerOf A)) (es : List ℕ) (rest : LayerOf A) → cut 0 (layer-ends ls ++ es) (flat-records ls ++ rest) [] ≡ cut (record-count ls) es rest ls
 unfolding cut layer-ends flat-records record-count
-cut-off [] es rest = refl
-cut-off (l ∷ ls) es rest =
+cut-off {A} [] es rest = refl
+cut-off {A} (l ∷ ls) es rest =
     let n : ℕ = length l + record-count ls in
     let e : length l ≡ n - record-count ls = omega arith in
-    ap₂ (λ (x : List ℕ) (y : List Record). cut 0 x y []) (append-assoc (layer-ends ls) (n ∷ []) es) (append-assoc (flat-records ls) l rest)
+    ap₂ (λ (x : List ℕ) (y : LayerOf A). cut 0 x y []) (append-assoc (layer-ends ls) (n ∷ []) es) (append-assoc (flat-records ls) l rest)
     ∙ cut-off ls (n ∷ es) (l ++ rest)
-    ∙ ap₂ (λ (x y : List Record). cut n es x (y ∷ ls)) (drop-at l rest (n - record-count ls) e) (take-at l rest (n - record-count ls) e)
+    ∙ ap₂ (λ (x y : LayerOf A). cut n es x (y ∷ ls)) (drop-at l rest (n - record-count ls) e) (take-at l rest (n - record-count ls) e)
 
-pub cut-back : (ls : List Layer) (top : Layer) → cut 0 (layer-ends ls) (flat-records ls ++ top) [] ≡ record { base = ls; top = top }
+pub cut-back : {A : Type 0} (ls : List (LayerOf A)) (top : LayerOf A) → cut 0 (layer-ends ls) (flat-records ls ++ top) [] ≡ record { base = ls; top = top }
 unfolding cut
 cut-back ls top = ap (λ (x : List ℕ). cut 0 x (flat-records ls ++ top) []) (sym (append-nil (layer-ends ls))) ∙ cut-off ls [] top
 
@@ -162,7 +148,7 @@ pending-back : (s : Slot) (n : ℕ) (t : Bool) → read-pending (pending-words (
 pending-back s n true = refl
 pending-back s n false = refl
 
-pending-joined : (q : List Pending) → all-pending-words q ≡ joined pending-words q
+pub pending-joined : (q : List Pending) → all-pending-words q ≡ joined pending-words q
 unfolding all-pending-words joined
 pending-joined [] = refl
 pending-joined (w ∷ q) = ap (λ (l : List ℕ). pending-words w ++ l) (pending-joined q)

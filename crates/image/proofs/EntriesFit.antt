@@ -12,8 +12,10 @@ use Rattle.model.specs.Numbers.{Bytes}
 use Rattle.model.specs.Entries.{number-at, u256-at, address-of, slot-of, write-of, member-of, chunks, writes-of, members-of}
 use Rattle.model.proofs.SlotLaws.{and-intro}
 use Rattle.model.proofs.EntryLaws.{bytes-drop, bytes-take, number-below}
-use Rattle.image.specs.WellFormed.{fits-64, u256-fits, address-fits, slot-fits}
-use Rattle.image.specs.Claims.{outcome-fits, writes-fit, members-fit}
+use Rattle.model.specs.Slots.{fits-64, u256-fits}
+use Rattle.image.specs.WellFormed.{address-fits, slot-fits}
+use Rattle.model.specs.Contents.{value-fits}
+use Rattle.image.specs.Claims.{writes-fit, members-fit}
 
 word-fits : (i : ℕ) (b : List ℕ) → Bytes b → fits-64 (number-at i 8 b) ≡ true
 word-fits i b f = lt-ltb (number-at i 8 b) (2 ^ 64) (number-below i 8 b f)
@@ -37,7 +39,7 @@ write-chunks-fit (suc n) b f =
     let g : Bytes (take 84 b) = bytes-take 84 b f in
     and-intro _ _ (slot-of-fits (take 84 b) g) (and-intro _ _ (u256-at-fits 52 (take 84 b) g) (write-chunks-fit n (drop 84 b) (bytes-drop 84 b f)))
 
-outcome-of-fits : (t : Bool) (v : U256) → u256-fits v ≡ true → outcome-fits (cond t none (some v)) ≡ true
+outcome-of-fits : (t : Bool) (v : U256) → u256-fits v ≡ true → value-fits (cond t none (some v)) ≡ true
 outcome-of-fits true v f = refl
 outcome-of-fits false v f = f
 

@@ -17,11 +17,13 @@ use Rattle.model.specs.Layers.{record-count}
 use Rattle.model.specs.Reads.{Pending}
 use Rattle.model.specs.Store.{Config, Generation, Store, chain}
 use Rattle.model.proofs.SlotLaws.{and-left, and-right}
-use Rattle.image.specs.WellFormed.{fits-64, hash-fits, anchor-fits, retention-fits, all-waiters, installed-ok, well-formed}
+use Rattle.model.specs.Slots.{fits-64}
+use Rattle.image.specs.WellFormed.{hash-fits, anchor-fits, retention-fits, all-waiters, installed-ok, well-formed}
 use Rattle.model.specs.Refusals.{store-words}
 use Rattle.image.specs.Image.{retention-words, hash-words, totals-words, all-record-words, all-pending-words, flat-records, layer-ends, padded, config-words, generation-words, table-words, installed-words, image-words}
-use Rattle.image.proofs.Words.{Fit, fit-nil, fit-cons, fit-append, fit-zeros, length-padded, fit-padded}
-use Rattle.image.proofs.Entries.{fits, fit-u256, fit-chain, fit-ends, fit-pendings, length-records, length-flat, length-ends, length-pending}
+use Rattle.model.proofs.WordLaws.{Fit, fit-nil, fit-cons, fit-append, fit-zeros, fits, fit-u256}
+use Rattle.image.proofs.Words.{length-padded, fit-padded}
+use Rattle.image.proofs.Entries.{fit-chain, fit-ends, fit-pendings, length-records, length-flat, length-ends, length-pending}
 use Rattle.image.proofs.Facts.{ConfigFacts, TotalsFacts, GenerationFacts, generation-facts, StoreFacts, store-facts}
 
 -- Lengths ---------------------------------------------------------------------------------------------

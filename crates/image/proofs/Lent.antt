@@ -9,7 +9,7 @@ use lib.Dec.{eqb, leb}
 use lib.ListN.{length, take, drop}
 use borrow.Author.Tests.{eqb-true}
 use Rattle.layout.specs.Layout.{installed-offset}
-use Rattle.model.specs.Layers.{is-some}
+use Rattle.model.specs.Contents.{is-some}
 use Rattle.model.specs.Store.{Generation, Store, Memory}
 use Rattle.model.proofs.SlotLaws.{split, not-both}
 use Rattle.model.specs.Refusals.{store-words}

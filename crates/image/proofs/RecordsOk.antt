@@ -1,23 +1,23 @@
 -- Each change of a generation's records keeps them right.
-use Prim.Native.Nat.{ℕ, suc, _≤_, _^_, max}
-use native.Mathlib.Omega.{arith}
+use Prim.Native.Nat.{ℕ, suc}
 use mathlib.Core.Path.{_≡_, refl}
 use mathlib.Core.Bool.{Bool, true, false, _&&_, cond}
 use mathlib.Core.List.{List, [], _∷_}
 use mathlib.Core.Option.{Option, some, none, Option·none-ne-some, Option·some-injective}
-use lib.Dec.{leb}
-use borrow.Author.Tests.{leb-true, le-leb, ltb-true, lt-ltb}
+use borrow.Author.Tests.{le-leb}
 use Rattle.model.specs.declared.storage_memo.Address.{Address}
 use Rattle.model.specs.declared.delta_snapshot.Slot.{Slot}
 use Rattle.model.specs.declared.delta_snapshot.Retention.{Retention}
-use Rattle.model.specs.Slots.{Value, LastUse, slot-eqb, slot-ltb, serves}
-use Rattle.model.specs.Layers.{Content, use-only, valued, Layer, find, insert, held-value, freshest-use, max-option, or-else, last-use-of, value-of, resolved-through-policy, touch, is-some, all-slots}
+use Rattle.model.specs.Slots.{Value, LastUse, slot-eqb, slot-ltb, serves, fits-64, u256-fits}
+use Rattle.model.specs.declared.delta_snapshot.Content.{Content}
+use Rattle.model.specs.Contents.{valued, valued-use, touch, value-fits, content-fits, content-ok, top-content-ok}
+use Rattle.model.specs.Layers.{LayerOf, Layer, find, insert, held-value, freshest-use, resolved-through-policy, all-slots}
 use Rattle.model.specs.Advance.{Write, apply-write, write-kind, unserved-kind, final-write-kind, relevant, seed-final-writes, compact-slots, compact-slot, compact, compact-if, is-void, seal}
 use Rattle.model.specs.Reads.{Member, settle-outcome, settle-members}
-use Rattle.image.specs.WellFormed.{fits-64, u256-fits, slot-fits, content-fits, every, rising-from, rising, at-most, content-ok, chain-ok, top-content-ok}
-use Rattle.image.specs.Claims.{outcome-fits, writes-fit, members-fit}
-use Rattle.model.proofs.SlotLaws.{split, not-both, and-left, and-right, and-intro, slot-eqb-true, slot-ltb-total}
-use Rattle.model.proofs.SlotRelation.{compacted-content}
+use Rattle.image.specs.WellFormed.{slot-fits, every, rising-from, rising, chain-ok}
+use Rattle.image.specs.Claims.{writes-fit, members-fit}
+use Rattle.model.proofs.SlotLaws.{split, and-left, and-right, and-intro, slot-eqb-true, slot-ltb-total}
+use Rattle.model.proofs.ContentLaws.{content-parts, content-fits-valued, content-fits-touch, content-ok-later, UseWithValue, neither, both, Holds, use-with-value-at, content-ok-settle, content-ok-overwrite, content-ok-touch, content-ok-compact, content-ok-again}
 use Rattle.model.proofs.LayerLaws.{find-compact, freshest-use-void, held-value-void}
 
 -- The tests of a record: over the layers below; of its numbers; in the top, over the base.
@@ -32,7 +32,7 @@ serves-over R n b s c = top-content-ok R n (freshest-use s b) c
 
 -- Inserts -------------------------------------------------------------------------------------------
 
-rising-insert-from : (a s : Slot) (c : Content) (l : Layer) → slot-ltb a s ≡ true → rising-from a l ≡ true → rising-from a (insert s c l) ≡ true
+rising-insert-from : {A : Type 0} (a s : Slot) (c : A) (l : LayerOf A) → slot-ltb a s ≡ true → rising-from a l ≡ true → rising-from a (insert s c l) ≡ true
 unfolding rising-from insert
 rising-insert-from a s c [] h e = rw h
 rising-insert-from a s c (r ∷ l) h e =
@@ -44,7 +44,7 @@ rising-insert-from a s c (r ∷ l) h e =
     (λ z. rw (z, h, z, q))
     (λ z. rw (z, p) (rising-insert-from (r .slot) s c l (slot-ltb-total (r .slot) s y z) q))))
 
-pub rising-insert : (s : Slot) (c : Content) (l : Layer) → rising l ≡ true → rising (insert s c l) ≡ true
+pub rising-insert : {A : Type 0} (s : Slot) (c : A) (l : LayerOf A) → rising l ≡ true → rising (insert s c l) ≡ true
 unfolding rising-from insert
 rising-insert s c [] e = refl
 rising-insert s c (r ∷ l) q =
@@ -54,7 +54,7 @@ rising-insert s c (r ∷ l) q =
     (λ z. rw (z, z, q))
     (λ z. rw z (rising-insert-from (r .slot) s c l (slot-ltb-total (r .slot) s y z) q))))
 
-every-insert : (p : Slot → Content → Bool) (s : Slot) (c : Content) (l : Layer) → p s c ≡ true → every p l ≡ true → every p (insert s c l) ≡ true
+every-insert : {A : Type 0} (p : Slot → A → Bool) (s : Slot) (c : A) (l : LayerOf A) → p s c ≡ true → every p l ≡ true → every p (insert s c l) ≡ true
 unfolding every insert
 every-insert p s c [] h e = rw h
 every-insert p s c (r ∷ l) h e =
@@ -64,14 +64,14 @@ every-insert p s c (r ∷ l) h e =
     (λ y. rw (y, h) b)
     (λ y. rw y (split (slot-ltb s (r .slot)) (λ z. rw (z, h, a) b) (λ z. rw (z, a) (every-insert p s c l h b))))
 
-every-implies : (p q : Slot → Content → Bool) (l : Layer) → ((s : Slot) (c : Content) → p s c ≡ true → q s c ≡ true) → every p l ≡ true → every q l ≡ true
+every-implies : {A : Type 0} (p q : Slot → A → Bool) (l : LayerOf A) → ((s : Slot) (c : A) → p s c ≡ true → q s c ≡ true) → every p l ≡ true → every q l ≡ true
 unfolding every
 every-implies p q [] f e = refl
 every-implies p q (r ∷ l) f e =
     let x : Bool = p (r .slot) (r .content) in
     rw (f (r .slot) (r .content) (and-left x _ e)) (every-implies p q l f (and-right x _ e))
 
-every-and : (p q : Slot → Content → Bool) (l : Layer) → every p l ≡ true → every q l ≡ true → every (λ s c. p s c && q s c) l ≡ true
+every-and : {A : Type 0} (p q : Slot → A → Bool) (l : LayerOf A) → every p l ≡ true → every q l ≡ true → every (λ s c. p s c && q s c) l ≡ true
 unfolding every
 every-and p q [] d e = refl
 every-and p q (r ∷ l) d e =
@@ -79,7 +79,7 @@ every-and p q (r ∷ l) d e =
     let y : Bool = q (r .slot) (r .content) in
     rw (and-left x _ d, and-left y _ e) (every-and p q l (and-right x _ d) (and-right y _ e))
 
-find-every : (p : Slot → Content → Bool) (s : Slot) (l : Layer) (c : Content) → every p l ≡ true → find s l ≡ some c → p s c ≡ true
+find-every : {A : Type 0} (p : Slot → A → Bool) (s : Slot) (l : LayerOf A) (c : A) → every p l ≡ true → find s l ≡ some c → p s c ≡ true
 unfolding every find
 find-every p s [] c e f = absurd (Option·none-ne-some c f)
 find-every p s (r ∷ l) c e f =
@@ -90,64 +90,6 @@ find-every p s (r ∷ l) c e f =
     (λ y. find-every p s l c (and-right x _ e) (rw y at f))
 
 -- A chain's slots -----------------------------------------------------------------------------------
-
--- A slot has both a use and a value in a right chain, or neither.
-data UseWithValue (n : ℕ) (s : Slot) : Option LastUse → Option Value → Type 0 where
-  neither : UseWithValue n s none none
-  both : (u : LastUse) (v : Value) → u ≤ n → slot-fits s ≡ true → u256-fits v ≡ true → UseWithValue n s (some u) (some v)
-
--- What a slot's record in a layer passes, if there is one.
-abbrev Found : (Slot → Content → Bool) → Slot → Option Content → Type 0
-Found p s t = (c : Content) → t ≡ some c → p s c ≡ true
-
--- A record with a value, of its parts.
-fits-valued : (s : Slot) (n u : ℕ) (v : Value) → slot-fits s ≡ true → fits-64 n ≡ true → u ≤ n → u256-fits v ≡ true → record-fits s (valued u v) ≡ true
-fits-valued s n u v a e h b = and-intro _ _ a (and-intro _ _ (lt-ltb u (2 ^ 64) (omega (arith, ltb-true n (2 ^ 64) e))) b)
-
-valued-le : (n u : ℕ) (v : Value) (h : Option Value) (f : Option LastUse) → content-ok n h f (valued u v) ≡ true → u ≤ n
-valued-le n u v h f e = leb-true u n (and-right (at-most f u) _ e)
-
-valued-fits : (s : Slot) (u : LastUse) (v : Value) → record-fits s (valued u v) ≡ true → u256-fits v ≡ true
-valued-fits s u v e = and-right (fits-64 u) _ (and-right (slot-fits s) _ e)
-
-fits-touch : (n : ℕ) (s : Slot) (t : Option Content) → slot-fits s ≡ true → fits-64 n ≡ true → Found record-fits s t → record-fits s (touch n t) ≡ true
-fits-touch n s none a e d = and-intro _ _ a e
-fits-touch n s (some (use-only u)) a e d = and-intro _ _ a e
-fits-touch n s (some (valued u v)) a e d = fits-valued s n n v a e (omega arith) (valued-fits s u v (d (valued u v) refl))
-
-module _ {n : ℕ} {s : Slot} where
-  use-with-value-over : (c : Content) {f : Option LastUse} {h : Option Value} → UseWithValue n s f h → content-ok n h f c ≡ true → record-fits s c ≡ true → UseWithValue n s (max-option (last-use-of (some c)) f) (or-else (value-of (some c)) h)
-  use-with-value-over (use-only u) neither e d = not-both e refl
-  use-with-value-over (use-only u) (both w v p a b) e d = both (max u w) v (omega (arith, leb-true u n (and-right (leb w u) _ e))) a b
-  use-with-value-over (valued u x) neither e d = both u x (leb-true u n e) (and-left (slot-fits s) _ d) (valued-fits s u x d)
-  use-with-value-over (valued u x) (both w v p a b) e d = both (max u w) x (omega (arith, leb-true u n (and-right (leb w u) _ e))) a (valued-fits s u x d)
-
-  use-with-value-at : (t : Option Content) {f : Option LastUse} {h : Option Value} → UseWithValue n s f h → Found (λ s c. content-ok n h f c) s t → Found record-fits s t → UseWithValue n s (max-option (last-use-of t) f) (or-else (value-of t) h)
-  use-with-value-at none k e d = k
-  use-with-value-at (some c) k e d = use-with-value-over c k (e c refl) (d c refl)
-
-  content-ok-settle : (v : Value) {f : Option LastUse} {h : Option Value} → UseWithValue n s f h → content-ok n h f (valued n v) ≡ true
-  content-ok-settle v neither = le-leb n n (omega arith)
-  content-ok-settle v (both u x p a b) = and-intro _ _ (le-leb u n p) (le-leb n n (omega arith))
-
-  -- A write over the base's freshest use.
-  content-ok-overwrite : (u : LastUse) (x : Value) {f : Option LastUse} {h : Option Value} → UseWithValue n s f h → f ≡ some u → content-ok n h f (valued u x) ≡ true
-  content-ok-overwrite u x neither q = absurd (Option·none-ne-some u q)
-  content-ok-overwrite u x (both w v p a b) q = let z : w ≡ u = Option·some-injective w u q in and-intro _ _ (le-leb w u (omega arith)) (le-leb u n (omega arith))
-
-  -- A use of a served slot.
-  content-ok-touch : (R : Retention) (x : Value) (t : Option Content) {f : Option LastUse} {h : Option Value} → UseWithValue n s f h
-      → Found (λ s c. content-ok n h f c) s t → Found (λ s c. top-content-ok R n f c) s t
-      → resolved-through-policy R n (max-option (last-use-of t) f) (or-else (value-of t) h) ≡ some x
-      → (content-ok n h f (touch n t) ≡ true) × (top-content-ok R n f (touch n t) ≡ true)
-  content-ok-touch R x none neither e d q = absurd (Option·none-ne-some x q)
-  content-ok-touch R x none (both u v p a b) e d q = (
-    and-intro _ _ (le-leb u n p) (le-leb n n (omega arith)),
-    split (serves R u n) (λ y. y) (λ y. absurd (Option·none-ne-some x (rw y at q))),
-  )
-  content-ok-touch R x (some (use-only u)) neither e d q = (e (use-only u) refl, d (use-only u) refl)
-  content-ok-touch R x (some (use-only u)) (both w v p a b) e d q = (and-intro _ _ (le-leb w n p) (le-leb n n (omega arith)), d (use-only u) refl)
-  content-ok-touch R x (some (valued u v)) k e d q = (content-ok-settle v k, refl)
 
 -- The parts of a right chain: its first layer, and the layers below.
 pub record LayerOk (n : ℕ) (l : Layer) (ls : List Layer) : Type 0 where
@@ -169,7 +111,7 @@ pub chain-ok-layer : (n : ℕ) (l : Layer) (ls : List Layer) → LayerOk n l ls 
 unfolding chain-ok
 chain-ok-layer n l ls k = rw (k .sorted, k .contents-ok, k .records-fit, k .below-ok)
 
-use-with-value : (n : ℕ) (b : List Layer) → chain-ok n b ≡ true → (s : Slot) → UseWithValue n s (freshest-use s b) (held-value s b)
+use-with-value : (n : ℕ) (b : List Layer) → chain-ok n b ≡ true → (s : Slot) → UseWithValue n (slot-fits s) (freshest-use s b) (held-value s b)
 unfolding freshest-use held-value
 use-with-value n [] e s = neither
 use-with-value n (l ∷ ls) e s =
@@ -199,18 +141,18 @@ module _ {R : Retention} {n : ℕ} {b : List Layer} (l : Layer) (t : TopOk R n b
     uses-served = every-insert (serves-over R n b) s c l q (t .uses-served);
   }
 
-  found-ok : (s : Slot) → Found (right-over n b) s (find s l)
+  found-ok : (s : Slot) → Holds (right-over n b s) (find s l)
   found-ok s c e = find-every (right-over n b) s l c (t .chain-right .contents-ok) e
 
-  found-fits : (s : Slot) → Found record-fits s (find s l)
-  found-fits s c e = find-every record-fits s l c (t .chain-right .records-fit) e
+  found-fits : (s : Slot) → Holds content-fits (find s l)
+  found-fits s c e = and-right (slot-fits s) _ (find-every record-fits s l c (t .chain-right .records-fit) e)
 
   module _ (number-fits : fits-64 n ≡ true) (s : Slot) (slot-fit : slot-fits s ≡ true) where
-    base-use-with-value : UseWithValue n s (freshest-use s b) (held-value s b)
+    base-use-with-value : UseWithValue n (slot-fits s) (freshest-use s b) (held-value s b)
     base-use-with-value = use-with-value n b (t .chain-right .below-ok) s
 
     top-ok-valued : (u : LastUse) (v : Value) → u256-fits v ≡ true → right-over n b s (valued u v) ≡ true → TopOk R n b (insert s (valued u v) l)
-    top-ok-valued u v f p = top-ok-insert s (valued u v) p (fits-valued s n u v slot-fit number-fits (valued-le n u v (held-value s b) (freshest-use s b) p) f) refl
+    top-ok-valued u v f p = top-ok-insert s (valued u v) p (and-intro _ _ slot-fit (content-fits-valued n u v number-fits (content-parts n (held-value s b) (freshest-use s b) (valued u v) p .use-within) f)) refl
 
     pub top-ok-settle : (v : Value) → u256-fits v ≡ true → TopOk R n b (insert s (valued n v) l)
     top-ok-settle v f = top-ok-valued n v f (content-ok-settle v base-use-with-value)
@@ -219,10 +161,10 @@ module _ {R : Retention} {n : ℕ} {b : List Layer} (l : Layer) (t : TopOk R n b
     unfolding freshest-use held-value
     top-ok-touch x e =
         let z = content-ok-touch R x (find s l) base-use-with-value (found-ok s) (λ c. find-every (serves-over R n b) s l c (t .uses-served)) e in
-        top-ok-insert s (touch n (find s l)) (z .0) (fits-touch n s (find s l) slot-fit number-fits (found-fits s)) (z .1)
+        top-ok-insert s (touch n (find s l)) (z .0) (and-intro _ _ slot-fit (content-fits-touch n (find s l) number-fits (found-fits s))) (z .1)
 
-    pub top-ok-apply-write : (x : Value) → u256-fits x ≡ true → (j : Bool) → TopOk R n b (apply-write n (final-write-kind R n j (find s l) (freshest-use s b)) s x l)
-    top-ok-apply-write x fx j = go (find s l) refl
+    pub top-ok-apply-write : (x : Value) → u256-fits x ≡ true → (j : Bool) → TopOk R n b (apply-write n (final-write-kind R n j (valued-use (find s l)) (freshest-use s b)) s x l)
+    top-ok-apply-write x fx j = go (valued-use (find s l)) refl
       where
         unserved-write : (i : Bool) → TopOk R n b (apply-write n (unserved-kind i) s x l)
         unserved-write true = top-ok-settle x fx
@@ -232,10 +174,9 @@ module _ {R : Retention} {n : ℕ} {b : List Layer} (l : Layer) (t : TopOk R n b
         over-base none e = unserved-write j
         over-base (some u) e = split (serves R u n) (λ y. rw y (top-ok-valued u x fx (content-ok-overwrite u x base-use-with-value e))) (λ y. rw y (unserved-write j))
 
-        go : (o : Option Content) → find s l ≡ o → TopOk R n b (apply-write n (final-write-kind R n j o (freshest-use s b)) s x l)
+        go : (o : Option LastUse) → valued-use (find s l) ≡ o → TopOk R n b (apply-write n (final-write-kind R n j o (freshest-use s b)) s x l)
         go none e = over-base (freshest-use s b) refl
-        go (some (use-only u)) e = over-base (freshest-use s b) refl
-        go (some (valued u v)) e = top-ok-valued u x fx (found-ok s (valued u v) e)
+        go (some u) e = top-ok-valued u x fx (content-ok-again n (held-value s b) (freshest-use s b) (find s l) u x e (found-ok s))
 
 pub top-ok-seed-final-writes : (R : Retention) (n : ℕ) (relevance : List Address) (b : List Layer) (ws : List Write) (l : Layer) → fits-64 n ≡ true → writes-fit ws ≡ true → TopOk R n b l → TopOk R n b (seed-final-writes R n relevance b ws l .top)
 unfolding seed-final-writes writes-fit
@@ -251,21 +192,14 @@ unfolding settle-members members-fit
 top-ok-settle-members R n b [] l e f t = t
 top-ok-settle-members R n b (m ∷ ms) l e f t =
     let x : Bool = slot-fits (m .slot) in
-    let y : Bool = outcome-fits (m .outcome) in
+    let y : Bool = value-fits (m .outcome) in
     top-ok-settle-members R n b ms _ e (and-right y _ (and-right x _ f)) (one (m .outcome) (and-left x _ f) (and-left y _ (and-right x _ f)))
   where
-    one : (r : Option Value) → slot-fits (m .slot) ≡ true → outcome-fits r ≡ true → TopOk R n b (settle-outcome n (m .slot) r l)
+    one : (r : Option Value) → slot-fits (m .slot) ≡ true → value-fits r ≡ true → TopOk R n b (settle-outcome n (m .slot) r l)
     one none a d = t
     one (some v) a d = top-ok-settle l t e (m .slot) a v d
 
 -- Fold and seal -------------------------------------------------------------------------------------
-
-content-ok-later : (n : ℕ) (c : Content) (f : Option LastUse) (h : Option Value) → content-ok n h f c ≡ true → content-ok (suc n) h f c ≡ true
-content-ok-later n (use-only u) f h e =
-    let p : (at-most f u && leb u n) ≡ true = and-right (is-some h) _ e in
-    and-intro _ _ (and-left (is-some h) _ e) (and-intro _ _ (and-left (at-most f u) _ p) (le-leb u (suc n) (omega (arith, leb-true u n (and-right (at-most f u) _ p)))))
-content-ok-later n (valued u v) f h e =
-    and-intro _ _ (and-left (at-most f u) _ e) (le-leb u (suc n) (omega (arith, leb-true u n (and-right (at-most f u) _ e))))
 
 -- One number later.
 chain-ok-later : (n : ℕ) (b : List Layer) → chain-ok n b ≡ true → chain-ok (suc n) b ≡ true
@@ -286,7 +220,7 @@ unfolding compact-slots every chain-ok held-value freshest-use
 compact-slots-ok R n b [] e k = record { sorted = refl; contents-ok = refl; records-fit = refl; below-ok = refl }
 compact-slots-ok R n b (s ∷ ss) e k = one (use-with-value n b k s) (compact-slots-ok R n b ss e k)
   where
-    one : {f : Option LastUse} {h : Option Value} → UseWithValue n s f h → LayerOk n (compact-slots R n b ss) [] → LayerOk n (compact-slot R n s f h (compact-slots R n b ss)) []
+    one : {f : Option LastUse} {h : Option Value} → UseWithValue n (slot-fits s) f h → LayerOk n (compact-slots R n b ss) [] → LayerOk n (compact-slot R n s f h (compact-slots R n b ss)) []
     one neither z = z
     one (both u v p a d) z =
         let l : Layer = compact-slots R n b ss in
@@ -294,20 +228,10 @@ compact-slots-ok R n b (s ∷ ss) e k = one (use-with-value n b k s) (compact-sl
         (λ y. rw y (record {
           sorted = rising-insert s (valued u v) l (z .sorted);
           contents-ok = every-insert (right-over n []) s (valued u v) l (le-leb u n p) (z .contents-ok);
-          records-fit = every-insert record-fits s (valued u v) l (fits-valued s n u v a e p d) (z .records-fit);
+          records-fit = every-insert record-fits s (valued u v) l (and-intro _ _ a (content-fits-valued n u v e p d)) (z .records-fit);
           below-ok = refl;
         }))
         (λ y. rw y z)
-
--- A record of the top over a folded base.
-content-ok-compact : (R : Retention) (n : ℕ) (s : Slot) (c : Content) {f : Option LastUse} {h : Option Value} → UseWithValue n s f h → (content-ok n h f c && top-content-ok R n f c) ≡ true
-    → content-ok n (or-else (value-of (compacted-content R n f h)) none) (max-option (last-use-of (compacted-content R n f h)) none) c ≡ true
-content-ok-compact R n s (use-only u) neither e = e
-content-ok-compact R n s (use-only u) (both w v p a b) e = let x : Bool = leb w u && leb u n in rw (and-right x _ e) (and-left x _ e)
-content-ok-compact R n s (valued u x) neither e = and-left (leb u n) _ e
-content-ok-compact R n s (valued u x) (both w v p a b) e =
-    let d : (leb w u && leb u n) ≡ true = and-left (leb w u && leb u n) _ e in
-    split (serves R w n) (λ y. rw y d) (λ y. rw y (and-right (leb w u) _ d))
 
 -- The top over the base that a fold, if it is due, leaves.
 layer-ok-compact : (R : Retention) (n : ℕ) (due : Bool) (b : List Layer) (l : Layer) → fits-64 n ≡ true → TopOk R n b l → LayerOk n l (compact-if due R n b .base)
@@ -318,7 +242,7 @@ layer-ok-compact R n true b l e t =
       sorted = t .chain-right .sorted;
       contents-ok =
           every-implies (λ s c. right-over n b s c && serves-over R n b s c) (right-over n (compact-slots R n b (all-slots b) ∷ [])) l
-          (λ s c p. rw find-compact (content-ok-compact R n s c (use-with-value n b k s) p))
+          (λ s c p. rw find-compact (content-ok-compact R c (use-with-value n b k s) p))
           (every-and (right-over n b) (serves-over R n b) l (t .chain-right .contents-ok) (t .uses-served));
       records-fit = t .chain-right .records-fit;
       below-ok = chain-ok-layer n (compact-slots R n b (all-slots b)) [] (compact-slots-ok R n b (all-slots b) e k);

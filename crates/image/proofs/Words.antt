@@ -1,30 +1,16 @@
 -- Words in bytes: reading them back, both ways.
-use Prim.Native.Nat.{ℕ, zero, suc, _+_, _-_, _*_, _/_, _%_, _^_, _≤_, _<_}
+use Prim.Native.Nat.{ℕ, zero, suc, _+_, _-_, _*_, _^_, _≤_, _<_}
 use mathlib.Core.Path.{_≡_, refl, sym, ap, ap₂, _∙_}
 use mathlib.Core.List.{List, [], _∷_, _++_, append-assoc}
-use native.Mathlib.Nat.{pow-suc}
 use native.Mathlib.Omega.{arith}
-use lib.Dec.{lit<}
-use lib.ListN.{length, take, drop, getD, replicate, length-append, length-drop, length-replicate}
-use lib.Seq.{take-suc, take-add, take-at, drop-at, getD-drop}
+use lib.ListN.{length, take, drop, replicate, length-append, length-drop, length-replicate}
+use lib.Seq.{take-add, take-at, drop-at, getD-drop}
 use Rattle.model.specs.Numbers.{be, num, Bytes}
+use Rattle.model.proofs.WordLaws.{Fit, fit-nil, fit-cons, fit-append, fit-zeros}
 use Rattle.model.proofs.NumberLaws.{length-be, num-be, be-num}
 use Rattle.image.specs.Image.{bytes-of, words-of, padded}
 
 -- Words -----------------------------------------------------------------------------------------------
-
--- Every word of a list has 64 bits.
-pub data Fit : List ℕ → Type 0 where
-  fit-nil : Fit []
-  fit-cons : {x : ℕ} {xs : List ℕ} → x < 2 ^ 64 → Fit xs → Fit (x ∷ xs)
-
-pub fit-append : {xs ys : List ℕ} → Fit xs → Fit ys → Fit (xs ++ ys)
-fit-append fit-nil q = q
-fit-append (fit-cons h p) q = fit-cons h (fit-append p q)
-
-pub fit-zeros : (n : ℕ) → Fit (replicate n 0)
-fit-zeros zero = fit-nil
-fit-zeros (suc n) = fit-cons (lit< tt) (fit-zeros n)
 
 pub length-bytes-of : (ws : List ℕ) → length (bytes-of ws) ≡ 8 * length ws
 unfolding bytes-of

@@ -1,9 +1,9 @@
 -- Records in bytes, apart from the rest of a store: what the functions over a part of the record area say.
 use Prim.Native.Nat.{ℕ, _-_, _*_, max}
-use mathlib.Core.List.{List, [], _∷_, _++_, map}
+use mathlib.Core.List.{List, _++_, map}
 use lib.ListN.{length, drop, replicate}
 use Rattle.layout.specs.Layout.{awaiting-size, awaiting-width, record-size, record-width}
-use Rattle.model.specs.Layers.{Layer}
+use Rattle.model.specs.Layers.{LayerOf, Layer}
 use Rattle.model.specs.Reads.{Pending}
 use Rattle.image.specs.Image.{bytes-of, words-of, all-record-words, all-pending-words, read-record, read-pending, entries}
 
@@ -16,7 +16,7 @@ unfoldable pub with-records : Layer → List ℕ → List ℕ
 with-records l s = bytes-of (all-record-words l) ++ drop (record-size * length l) s
 
 -- The lowest k of some layers (the newest first): those of the numbers below k.
-abbrev pub layers-below : ℕ → List Layer → List Layer
+abbrev pub layers-below : {A : Type 0} → ℕ → List (LayerOf A) → List (LayerOf A)
 layers-below k b = drop (length b - k) b
 
 -- The n awaiting slots that bytes begin with.

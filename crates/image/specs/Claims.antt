@@ -1,45 +1,41 @@
 -- What is claimed of well-formed stores and of their image.
 use Prim.Native.Nat.{ℕ}
 use mathlib.Core.Path.{_≡_}
-use mathlib.Core.Bool.{Bool, true, false, _&&_}
+use mathlib.Core.Bool.{Bool, true, _&&_}
 use mathlib.Core.List.{List, [], _∷_, _++_, map}
-use mathlib.Core.Option.{Option, some, none}
+use mathlib.Core.Option.{some, none}
 use lib.ListN.{length, take}
-use Rattle.model.specs.declared.delta_snapshot.Slot.{Slot}
-use Rattle.model.specs.declared.storage_memo.U256.{U256}
 use Rattle.model.specs.Numbers.{Bytes}
 use Rattle.model.specs.Advance.{Write}
 use Rattle.model.specs.Reads.{Member}
-use Rattle.model.specs.Store.{AnchoredCall, look, get, put, read, take as take-call, answer, answer-failed, StoreCall, install, advance, at-anchor, Call, open-store, on-store, Store, Memory}
+use Rattle.model.specs.Store.{look, get, put, read, AnchoredCall, on-slot, take as take-call, answer, answer-failed, StoreCall, install, advance, at-anchor, Call, open-store, on-store, Store, Memory}
 use Rattle.model.specs.Refusals.{LentCall, step, trace, final, store-size}
-use Rattle.image.specs.WellFormed.{u256-fits, slot-fits, anchor-fits, retention-fits, well-formed}
+use Rattle.model.specs.Slots.{u256-fits}
+use Rattle.model.specs.Contents.{value-fits}
+use Rattle.image.specs.WellFormed.{slot-fits, anchor-fits, retention-fits, well-formed}
 use Rattle.image.specs.Image.{image, decode, BytesCall, lent-call, bytes-trace, bytes-final}
 
 -- The arguments of a call fit the fields of the code's types.
-abbrev pub outcome-fits : Option U256 → Bool
-outcome-fits none = true
-outcome-fits (some v) = u256-fits v
-
 unfoldable pub writes-fit : List Write → Bool
 writes-fit [] = true
 writes-fit (w ∷ ws) = slot-fits (w .slot) && (u256-fits (w .value) && writes-fit ws)
 
 unfoldable pub members-fit : List Member → Bool
 members-fit [] = true
-members-fit (m ∷ ms) = slot-fits (m .slot) && (outcome-fits (m .outcome) && members-fit ms)
+members-fit (m ∷ ms) = slot-fits (m .slot) && (value-fits (m .outcome) && members-fit ms)
 
 abbrev pub anchored-fits : AnchoredCall → Bool
-anchored-fits (look s) = slot-fits s
-anchored-fits (get s) = slot-fits s
-anchored-fits (put s v) = slot-fits s && u256-fits v
-anchored-fits (read s) = slot-fits s
+anchored-fits (on-slot (look s)) = slot-fits s
+anchored-fits (on-slot (get s)) = slot-fits s
+anchored-fits (on-slot (put s v)) = slot-fits s && u256-fits v
+anchored-fits (on-slot (read s)) = slot-fits s
 anchored-fits take-call = true
 anchored-fits (answer ms) = members-fit ms
 anchored-fits (answer-failed ss) = true
 
 abbrev pub store-call-fits : StoreCall → Bool
 store-call-fits (install a) = anchor-fits a
-store-call-fits (advance child h k relevance ws) = anchor-fits child && writes-fit ws
+store-call-fits (advance child h p) = anchor-fits child && writes-fit (p .writes)
 store-call-fits (at-anchor a c) = anchored-fits c
 
 abbrev pub call-fits : Call → Bool

@@ -6,18 +6,17 @@ use mathlib.Core.Option.{Option, some, none}
 use lib.Dec.{eqb, leb}
 use lib.ListN.{length, take, drop, getD, replicate}
 use Rattle.layout.specs.Layout.{awaiting-count-index, awaiting-index, awaiting-table, awaiting-width, capacity-index, capacity-offset, depth-index, ends-index, ends-limit, generation-width, hash-index, installed-index, magic, max-depth-index, number-index, record-width, records-count-index, records-index, retention-index, slot-width, taken-index, totals-index, waiters-index}
-use Rattle.model.specs.declared.storage_memo.Address.{Address}
-use Rattle.model.specs.declared.storage_memo.U256.{U256}
 use Rattle.model.specs.declared.delta_snapshot.Slot.{Slot}
 use Rattle.model.specs.declared.storage_memo.BlockHash.{BlockHash}
-use Rattle.model.specs.declared.storage_memo.ReadAnchor.{ReadAnchor}
 use Rattle.model.specs.declared.delta_snapshot.Retention.{Retention}
 use Rattle.model.specs.declared.storage_memo.BlockHash.the-variants.{Unknown, Known}
 use Rattle.model.specs.declared.delta_snapshot.Retention.the-variants.{Unbounded, IdleBlocks}
-use Rattle.model.specs.Slots.{slot-words, u256-words, words-eqb}
-use Rattle.model.specs.Layers.{Content, use-only, valued, Record, Layer, record-count}
+use Rattle.model.specs.Slots.{slot-words, u256-words, read-u256, words-eqb}
+use Rattle.model.specs.declared.delta_snapshot.Content.{Content}
+use Rattle.model.specs.Contents.{content-words, read-content}
+use Rattle.model.specs.Layers.{LayerOf, Record, record-count}
 use Rattle.model.specs.declared.read_hub.ReadTotals.{ReadTotals}
-use Rattle.model.specs.Reads.{Pending, no-reads}
+use Rattle.model.specs.Reads.{Pending}
 use Rattle.model.specs.Store.{Config, Generation, Store, Call, chain, Memory}
 use Rattle.model.specs.Numbers.{be, num}
 use Rattle.model.specs.Refusals.{LentCall, StepResult, Answer, refused, step, store-words}
@@ -52,11 +51,6 @@ hash-words (Known h) = 1 ∷ u256-words h
 abbrev pub totals-words : ReadTotals → List ℕ
 totals-words t = t .accepted ∷ t .served ∷ t .waiting ∷ t .valued ∷ t .refused ∷ t .rounds ∷ t .members ∷ t .errors ∷ t .coalesced ∷ []
 
--- The last word has room for a second last use.
-abbrev pub content-words : Content → List ℕ
-content-words (use-only u) = u ∷ 0 ∷ 0 ∷ 0 ∷ 0 ∷ 0 ∷ 0 ∷ []
-content-words (valued u v) = u ∷ 1 ∷ (u256-words v ++ (0 ∷ []))
-
 -- A record's words, and an awaiting slot's: so many as `record-width` and `awaiting-width` say.
 abbrev pub record-words : Record → List ℕ
 record-words r = slot-words (r .slot) ++ content-words (r .content)
@@ -73,12 +67,12 @@ all-pending-words [] = []
 all-pending-words (w ∷ q) = pending-words w ++ all-pending-words q
 
 -- The records of layers (the newest first) in the store's order: the lowest layer first. That records rise by layer is enforced here: the words have to be those of the layers' records in this order.
-unfoldable pub flat-records : List Layer → List Record
+unfoldable pub flat-records : {A : Type 0} → List (LayerOf A) → LayerOf A
 flat-records [] = []
 flat-records (l ∷ ls) = flat-records ls ++ l
 
 -- For each layer, the lowest first, the number of records of it and all below.
-unfoldable pub layer-ends : List Layer → List ℕ
+unfoldable pub layer-ends : {A : Type 0} → List (LayerOf A) → List ℕ
 layer-ends [] = []
 layer-ends (l ∷ ls) = layer-ends ls ++ (record-count (l ∷ ls) ∷ [])
 
@@ -116,14 +110,8 @@ image st = bytes-of (image-words st)
 
 -- Reading a state ---------------------------------------------------------------------------------------
 
-abbrev pub read-u256 : List ℕ → U256
-read-u256 l = record { w0 = getD l 0 0; w1 = getD l 1 0; w2 = getD l 2 0; w3 = getD l 3 0 }
-
 abbrev pub read-slot : List ℕ → Slot
 read-slot l = record { address = record { w0 = getD l 0 0; w1 = getD l 1 0; w2 = getD l 2 0 }; index = read-u256 (drop 3 l) }
-
-abbrev pub read-content : List ℕ → Content
-read-content l = cond (eqb (getD l 1 0) 0) (use-only (getD l 0 0)) (valued (getD l 0 0) (read-u256 (drop 2 l)))
 
 abbrev pub read-record : List ℕ → Record
 read-record l = record { slot = read-slot l; content = read-content (drop slot-width l) }
@@ -137,11 +125,14 @@ entries w zero l = []
 entries w (suc n) l = take w l ∷ entries w n (drop w l)
 
 -- The layers (the newest first) that ends cut records into, and what is left above them; the records before `from` are cut already, into `b`.
-pub record Cut : Type 0 where
-  pub base : List Layer
-  pub top : Layer
+pub record CutOf (A : Type 0) : Type 0 where
+  pub base : List (LayerOf A)
+  pub top : LayerOf A
 
-unfoldable pub cut : ℕ → List ℕ → List Record → List Layer → Cut
+abbrev pub Cut : Type 0
+Cut = CutOf Content
+
+unfoldable pub cut : {A : Type 0} → ℕ → List ℕ → LayerOf A → List (LayerOf A) → CutOf A
 cut from [] rs b = record { base = b; top = rs }
 cut from (e ∷ es) rs b = cut e es (drop (e - from) rs) (take (e - from) rs ∷ b)
 

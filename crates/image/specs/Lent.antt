@@ -5,7 +5,7 @@ use mathlib.Core.Option.{some}
 use Prim.Native.Nat.{ℕ, suc, _-_}
 use lib.ListN.{length, take, drop, getD}
 use Rattle.model.specs.Numbers.{num}
-use Rattle.model.specs.Layers.{Layer}
+use Rattle.model.specs.Layers.{LayerOf}
 use Rattle.model.specs.Store.{Generation, Store}
 use Rattle.model.specs.Refusals.{store-words}
 use Rattle.image.specs.Image.{words-of, read-generation, read-store, decode}
@@ -31,5 +31,5 @@ pub record Installed (b : List ℕ) : Type 0 where
   pub installs : store-of b .installed ≡ some (generation-of b)
 
 -- The layer of number k of some layers (the newest first).
-abbrev pub layer-of : ℕ → List Layer → Layer
+abbrev pub layer-of : {A : Type 0} → ℕ → List (LayerOf A) → LayerOf A
 layer-of k b = getD b (length b - suc k) []

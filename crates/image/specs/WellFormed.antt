@@ -1,31 +1,25 @@
 -- When a store is well formed: document 01's rule, a definition for each of its parts.
 use Prim.Native.Nat.{ℕ, suc, _+_, _^_}
-use mathlib.Core.Bool.{Bool, true, false, not, _&&_, _||_, cond}
+use mathlib.Core.Bool.{Bool, true, _&&_}
 use mathlib.Core.List.{List, [], _∷_}
 use mathlib.Core.Option.{Option, some, none}
 use lib.Dec.{eqb, leb, ltb}
 use lib.ListN.{length}
 use Rattle.model.specs.declared.storage_memo.Address.{Address}
-use Rattle.model.specs.declared.storage_memo.U256.{U256}
 use Rattle.model.specs.declared.delta_snapshot.Slot.{Slot}
 use Rattle.model.specs.declared.storage_memo.BlockHash.{BlockHash}
 use Rattle.model.specs.declared.storage_memo.ReadAnchor.{ReadAnchor}
 use Rattle.model.specs.declared.delta_snapshot.Retention.{Retention}
 use Rattle.model.specs.declared.storage_memo.BlockHash.the-variants.{Unknown, Known}
 use Rattle.model.specs.declared.delta_snapshot.Retention.the-variants.{Unbounded, IdleBlocks}
-use Rattle.model.specs.Slots.{Value, LastUse, slot-ltb, serves}
-use Rattle.model.specs.Layers.{Content, use-only, valued, Record, Layer, held-value, freshest-use, is-some, record-count}
+use Rattle.model.specs.Slots.{slot-ltb, fits-64, u256-fits}
+use Rattle.model.specs.Contents.{content-fits, content-ok, top-content-ok}
+use Rattle.model.specs.Layers.{LayerOf, Layer, held-value, freshest-use, record-count}
 use Rattle.model.specs.declared.read_hub.ReadTotals.{ReadTotals}
 use Rattle.model.specs.Reads.{Pending}
 use Rattle.model.specs.Store.{Config, Generation, Store, chain}
 
 -- Numbers fit the fields of the code's types ----------------------------------------------------------
-
-abbrev pub fits-64 : ℕ → Bool
-fits-64 n = ltb n (2 ^ 64)
-
-abbrev pub u256-fits : U256 → Bool
-u256-fits x = fits-64 (x .w0) && (fits-64 (x .w1) && (fits-64 (x .w2) && fits-64 (x .w3)))
 
 abbrev pub address-fits : Address → Bool
 address-fits a = ltb (a .w0) (2 ^ 32) && (fits-64 (a .w1) && fits-64 (a .w2))
@@ -44,35 +38,21 @@ abbrev pub retention-fits : Retention → Bool
 retention-fits Unbounded = true
 retention-fits (IdleBlocks n) = fits-64 n
 
-abbrev pub content-fits : Content → Bool
-content-fits (use-only u) = fits-64 u
-content-fits (valued u v) = fits-64 u && u256-fits v
-
 -- Records ---------------------------------------------------------------------------------------------
 
 -- Every record of a layer passes a test.
-unfoldable pub every : (Slot → Content → Bool) → Layer → Bool
+unfoldable pub every : {A : Type 0} → (Slot → A → Bool) → LayerOf A → Bool
 every p [] = true
 every p (r ∷ l) = p (r .slot) (r .content) && every p l
 
 -- The slots of a layer rise strictly, and come after the given one.
-unfoldable pub rising-from : Slot → Layer → Bool
+unfoldable pub rising-from : {A : Type 0} → Slot → LayerOf A → Bool
 rising-from s [] = true
 rising-from s (r ∷ l) = slot-ltb s (r .slot) && rising-from (r .slot) l
 
-abbrev pub rising : Layer → Bool
+abbrev pub rising : {A : Type 0} → LayerOf A → Bool
 rising [] = true
 rising (r ∷ l) = rising-from (r .slot) l
-
--- A use, if there is one, is at most a number.
-abbrev pub at-most : Option LastUse → ℕ → Bool
-at-most none n = true
-at-most (some u) n = leb u n
-
--- A record over the layers below, of their held value h and freshest use f: a record without a value has a valued one of its slot in a lower layer; its last use is not below theirs and does not exceed the installed number.
-abbrev pub content-ok : ℕ → Option Value → Option LastUse → Content → Bool
-content-ok now h f (use-only u) = is-some h && (at-most f u && leb u now)
-content-ok now h f (valued u v) = at-most f u && leb u now
 
 -- Every layer rises, and each of its records is right over the layers below and fits. That records rise by layer, too, is enforced by `flat-records` and the layer ends (Image).
 unfoldable pub chain-ok : ℕ → List Layer → Bool
@@ -82,15 +62,7 @@ chain-ok now (l ∷ ls) =
     && (every (λ s c. content-ok now (held-value s ls) (freshest-use s ls) c) l
     && (every (λ s c. slot-fits s && content-fits c) l && chain-ok now ls))
 
--- A record of the top without a value: its freshest use in the base serves at the installed number.
-abbrev pub use-serves : Retention → ℕ → Option LastUse → Bool
-use-serves R now none = false
-use-serves R now (some u) = serves R u now
-
-abbrev pub top-content-ok : Retention → ℕ → Option LastUse → Content → Bool
-top-content-ok R now f (use-only u) = use-serves R now f
-top-content-ok R now f (valued u v) = true
-
+-- The records of a generation: the chain's, and those of the top over the base.
 unfoldable pub records-ok : Retention → Generation → Bool
 records-ok R g =
     chain-ok (g .anchor .number) (chain g) && every (λ s c. top-content-ok R (g .anchor .number) (freshest-use s (g .base)) c) (g .top)

@@ -1,22 +1,25 @@
 -- Laws of a search of the layers: the later of two uses, a slot's record in a part, a layer's answer and those of the layers below.
 use Prim.Native.Nat.{ℕ, suc, _+_, _-_, _*_, _≤_, _<_, max}
 use mathlib.Core.Path.{_≡_, sym, ap, ap₂, _∙_}
-use mathlib.Core.Bool.{Bool, true, false, not, cond}
+use mathlib.Core.Bool.{Bool, true, false, cond}
 use mathlib.Core.List.{List, [], _∷_}
 use mathlib.Core.Option.{Option, some, none}
 use native.Mathlib.Omega.{arith}
-use lib.Dec.{eqb}
-use lib.ListN.{length, take, drop, getD, length-drop}
+use lib.ListN.{length, take, drop, length-drop}
 use lib.Seq.{take-all}
 use Rattle.layout.specs.Layout.{record-size, records-offset}
 use Rattle.model.specs.declared.storage_memo.U256.{U256}
 use Rattle.model.specs.declared.delta_snapshot.Slot.{Slot}
 use Rattle.model.specs.Slots.{Value, LastUse, serves}
-use Rattle.model.specs.Layers.{Content, use-only, valued, Layer, find, last-use-of, value-of, or-else, max-option, held-value, freshest-use, resolved-through-policy, record-count}
+use Rattle.model.specs.declared.delta_snapshot.Held.{Held}
+use Rattle.model.specs.declared.delta_snapshot.Held.the-variants.{Nothing, Value as HeldValue}
+use Rattle.model.specs.declared.delta_snapshot.Content.{Content}
+use Rattle.model.specs.Contents.{held-option, use-of, has-value, last-use-of, value-of, valued-use, or-else, max-option}
+use Rattle.model.specs.Layers.{Record, Layer, find, held-value, freshest-use, resolved-through-policy, record-count}
 use Rattle.model.specs.Store.{Generation, chain, resolved}
 use Rattle.model.specs.declared.delta_snapshot.Retention.{Retention}
+use Rattle.image.specs.Image.{read-record}
 use Rattle.image.specs.WellFormed.{rising}
-use Rattle.image.specs.Image.{read-u256}
 use Rattle.image.specs.Area.{records-of, layers-below}
 use Rattle.image.specs.Lent.{generation-of, Installed, layer-of}
 use Rattle.image.proofs.Areas.{Area, below-none, below-all, below-suc}
@@ -25,14 +28,10 @@ use Rattle.records.specs.declared.Found.{Found}
 use Rattle.records.specs.declared.Found.the-variants.{At as FoundAt, Absent as FoundAbsent}
 use Rattle.records.specs.Records.{place-in, words-at}
 use Rattle.records.proofs.Places.{found-lt, found-content, absent-none}
-use Rattle.records.proofs.RecordsAt.{records-length, content-of, content-at}
+use Rattle.records.proofs.RecordsAt.{records-length, record-words-at}
 use Rattle.layers.specs.declared.Use.{Use}
 use Rattle.layers.specs.declared.Use.the-variants.{None, At}
-use Rattle.layers.specs.declared.Held.{Held}
-use Rattle.layers.specs.declared.Held.the-variants.{Nothing, Value as HeldValue}
-use Rattle.layers.specs.declared.Entry.{Entry}
-use Rattle.layers.specs.declared.Entry.the-variants.{Used, Valued}
-use Rattle.layers.specs.Answers.{use-option, held-option, entry-content}
+use Rattle.layers.specs.Answers.{use-option}
 
 -- The later of two uses, by what each is.
 uses : (a b a' b' : Use) → a ≡ a' → b ≡ b' → max-option (use-option a') (use-option b') ≡ max-option (use-option a) (use-option b)
@@ -47,16 +46,9 @@ later-second a b x y p q h = let e : y ≡ max x y = omega arith in ap some e �
 pub later-same : (a b : Use) (x y : ℕ) → a ≡ At x → b ≡ At y → y ≤ x → some x ≡ max-option (use-option a) (use-option b)
 later-same a b x y p q h = let e : x ≡ max x y = omega arith in ap some e ∙ uses a b (At x) (At y) p q
 
--- A record's parts ------------------------------------------------------------------------------------
-
-pub use-used : (e : Entry) (u : ℕ) → e ≡ Used u → some u ≡ last-use-of (entry-content e)
-use-used e u p = sym (ap (λ (x : Entry). last-use-of (entry-content x)) p)
-
-pub use-valued : (e : Entry) (u : ℕ) (v : U256) → e ≡ Valued u v → some u ≡ last-use-of (entry-content e)
-use-valued e u v p = sym (ap (λ (x : Entry). last-use-of (entry-content x)) p)
-
-pub value-valued : (e : Entry) (u : ℕ) (v : U256) → e ≡ Valued u v → some v ≡ value-of (entry-content e)
-value-valued e u v p = sym (ap (λ (x : Entry). value-of (entry-content x)) p)
+-- The content of record i.
+abbrev pub record-content : ℕ → List ℕ → Content
+record-content i s = read-record (words-at i s) .content
 
 -- A slot's record among the n records that bytes begin with, by what the search for its place answers ---
 module _ (n : ℕ) (s : List ℕ) (t : Slot) (f : Found) (p : f ≡ place-in t (records-of n s)) (i : ℕ) where
@@ -69,15 +61,16 @@ module _ (n : ℕ) (s : List ℕ) (t : Slot) (f : Found) (p : f ≡ place-in t (
   pub entry-room : n * record-size ≤ length s → f ≡ FoundAt i → (i + 1) * record-size ≤ length s
   entry-room h q = omega (arith, entry-lt q)
 
-  entry-is : f ≡ FoundAt i → find t (records-of n s) ≡ some (content-of (getD (words-at i s) 7 0) (not (eqb (getD (words-at i s) 8 0) 0)) (read-u256 (drop 9 (words-at i s))))
-  entry-is q = found-content (records-of n s) t i (sym p ∙ q) ∙ ap some (content-at n i s (entry-lt q))
+  pub entry-is : f ≡ FoundAt i → some (record-content i s) ≡ find t (records-of n s)
+  entry-is q = ap (λ (r : Record). some (r .content)) (sym (record-words-at n i s (entry-lt q))) ∙ sym (found-content (records-of n s) t i (sym p ∙ q))
 
-  pub entry-valued : (u : ℕ) (h : Bool) (v : U256) → f ≡ FoundAt i → u ≡ getD (words-at i s) 7 0 → h ≡ not (eqb (getD (words-at i s) 8 0) 0) → h ≡ true → v ≡ read-u256 (drop 9 (words-at i s))
-      → some (valued u v) ≡ find t (records-of n s)
-  entry-valued u h v q a b c d = (λ j. some (content-of (a j) ((sym c ∙ b) j) (d j))) ∙ sym (entry-is q)
+-- The last use of a record with a value, by what the code has of it.
+module _ (c : Content) (h : Bool) (p : h ≡ has-value c) where
+  pub valued-here : (u : LastUse) → h ≡ true → u ≡ use-of c → some u ≡ valued-use (some c)
+  valued-here u e q = let k : has-value c ≡ true = sym p ∙ e in rw k (ap some q)
 
-  pub entry-used : (u : ℕ) (h : Bool) → f ≡ FoundAt i → u ≡ getD (words-at i s) 7 0 → h ≡ not (eqb (getD (words-at i s) 8 0) 0) → h ≡ false → some (use-only u) ≡ find t (records-of n s)
-  entry-used u h q a b c = (λ j. some (content-of (a j) ((sym c ∙ b) j) (read-u256 (drop 9 (words-at i s))))) ∙ sym (entry-is q)
+  pub valued-not : h ≡ false → none ≡ valued-use (some c)
+  valued-not e = let k : has-value c ≡ false = sym p ∙ e in rw k
 
 -- A layer's part --------------------------------------------------------------------------------------
 
@@ -96,8 +89,8 @@ module _ (b : List ℕ) (from : ℕ) (l : Layer) (area : Area b from l) (x n : �
   pub lent-asks : (n * record-size ≤ length (lent x b)) × (rising (records-of n (lent x b)) ≡ true)
   lent-asks = (omega (arith, ap length lent-rest, length-drop (records-offset + record-size * x) b, area .room), ap rising lent-reads ∙ area .rises)
 
-  pub lent-finds : (t : Slot) (e : Option Content) → e ≡ find t (records-of n (lent x b)) → e ≡ find t l
-  lent-finds t e r = r ∙ ap (find t) lent-reads
+  pub lent-finds : {A : Type 0} (f : Option Content → A) (t : Slot) (e : A) → e ≡ f (find t (records-of n (lent x b))) → e ≡ f (find t l)
+  lent-finds f t e r = r ∙ ap (λ (k : Layer). f (find t k)) lent-reads
 
 -- The layer of number k stands past the records below it, as many as the next layer starts later.
 pub layer-area : (b : List ℕ) (k : ℕ) → Installed b → k < length (generation-of b .base) → Area b (record-count (layers-below k (generation-of b .base))) (layer-of k (generation-of b .base))
@@ -136,50 +129,50 @@ pub fresh-zero : (ls : List Layer) (k : ℕ) (t : Slot) → k ≡ 0 → none ≡
 unfolding freshest-use
 fresh-zero ls k t z = sym (ap (freshest-use t) (below-zero ls k z))
 
-pub fresh-more : (ls : List Layer) (k : ℕ) (t : Slot) (r own below : Option LastUse) (e : Option Content) → (k ≡ 0 → ⊥) → k ≤ length ls
-    → r ≡ max-option own below → own ≡ last-use-of e → e ≡ find t (layer-of (k - 1) ls) → below ≡ freshest-use t (layers-below (k - 1) ls) → r ≡ freshest-use t (layers-below k ls)
+pub fresh-more : (ls : List Layer) (k : ℕ) (t : Slot) (r own below : Option LastUse) → (k ≡ 0 → ⊥) → k ≤ length ls
+    → r ≡ max-option own below → own ≡ last-use-of (find t (layer-of (k - 1) ls)) → below ≡ freshest-use t (layers-below (k - 1) ls) → r ≡ freshest-use t (layers-below k ls)
 unfolding freshest-use
-fresh-more ls k t r own below e z h p q s d = p ∙ ap₂ max-option (q ∙ ap last-use-of s) d ∙ sym (ap (freshest-use t) (below-step ls k z h))
+fresh-more ls k t r own below z h p q d = p ∙ ap₂ max-option q d ∙ sym (ap (freshest-use t) (below-step ls k z h))
 
 pub held-zero : (ls : List Layer) (k : ℕ) (t : Slot) → k ≡ 0 → none ≡ held-value t (layers-below k ls)
 unfolding held-value
 held-zero ls k t z = sym (ap (held-value t) (below-zero ls k z))
 
-held-step : (ls : List Layer) (k : ℕ) (t : Slot) (own : Held) (e : Option Content) → (k ≡ 0 → ⊥) → k ≤ length ls
-    → held-option own ≡ value-of e → e ≡ find t (layer-of (k - 1) ls) → or-else (held-option own) (held-value t (layers-below (k - 1) ls)) ≡ held-value t (layers-below k ls)
+held-step : (ls : List Layer) (k : ℕ) (t : Slot) (own : Held) → (k ≡ 0 → ⊥) → k ≤ length ls
+    → held-option own ≡ value-of (find t (layer-of (k - 1) ls)) → or-else (held-option own) (held-value t (layers-below (k - 1) ls)) ≡ held-value t (layers-below k ls)
 unfolding held-value
-held-step ls k t own e z h p q = ap (λ (x : Option Value). or-else x (held-value t (layers-below (k - 1) ls))) (p ∙ ap value-of q) ∙ sym (ap (held-value t) (below-step ls k z h))
+held-step ls k t own z h p = ap (λ (x : Option Value). or-else x (held-value t (layers-below (k - 1) ls))) p ∙ sym (ap (held-value t) (below-step ls k z h))
 
-pub held-here : (ls : List Layer) (k : ℕ) (t : Slot) (own : Held) (e : Option Content) (v : U256) → (k ≡ 0 → ⊥) → k ≤ length ls
-    → held-option own ≡ value-of e → e ≡ find t (layer-of (k - 1) ls) → own ≡ HeldValue v → held-option own ≡ held-value t (layers-below k ls)
-held-here ls k t own e v z h p q d =
-    ap held-option d ∙ sym (ap (λ (x : Held). or-else (held-option x) (held-value t (layers-below (k - 1) ls))) d) ∙ held-step ls k t own e z h p q
+pub held-here : (ls : List Layer) (k : ℕ) (t : Slot) (own : Held) (v : U256) → (k ≡ 0 → ⊥) → k ≤ length ls
+    → held-option own ≡ value-of (find t (layer-of (k - 1) ls)) → own ≡ HeldValue v → held-option own ≡ held-value t (layers-below k ls)
+held-here ls k t own v z h p d =
+    ap held-option d ∙ sym (ap (λ (x : Held). or-else (held-option x) (held-value t (layers-below (k - 1) ls))) d) ∙ held-step ls k t own z h p
 
-pub held-below : (ls : List Layer) (k : ℕ) (t : Slot) (own : Held) (e : Option Content) (r : Option Value) → (k ≡ 0 → ⊥) → k ≤ length ls
-    → held-option own ≡ value-of e → e ≡ find t (layer-of (k - 1) ls) → own ≡ Nothing → r ≡ held-value t (layers-below (k - 1) ls) → r ≡ held-value t (layers-below k ls)
-held-below ls k t own e r z h p q d s =
-    s ∙ sym (ap (λ (x : Held). or-else (held-option x) (held-value t (layers-below (k - 1) ls))) d) ∙ held-step ls k t own e z h p q
+pub held-below : (ls : List Layer) (k : ℕ) (t : Slot) (own : Held) (r : Option Value) → (k ≡ 0 → ⊥) → k ≤ length ls
+    → held-option own ≡ value-of (find t (layer-of (k - 1) ls)) → own ≡ Nothing → r ≡ held-value t (layers-below (k - 1) ls) → r ≡ held-value t (layers-below k ls)
+held-below ls k t own r z h p d s =
+    s ∙ sym (ap (λ (x : Held). or-else (held-option x) (held-value t (layers-below (k - 1) ls))) d) ∙ held-step ls k t own z h p
 
 -- The top over the base -------------------------------------------------------------------------------
 
-pub chain-fresh : (g : Generation) (n : ℕ) (t : Slot) (r own below : Option LastUse) (e : Option Content) → n ≡ length (g .base)
-    → r ≡ max-option own below → own ≡ last-use-of e → e ≡ find t (g .top) → below ≡ freshest-use t (layers-below n (g .base)) → r ≡ freshest-use t (chain g)
+pub chain-fresh : (g : Generation) (n : ℕ) (t : Slot) (r own below : Option LastUse) → n ≡ length (g .base)
+    → r ≡ max-option own below → own ≡ last-use-of (find t (g .top)) → below ≡ freshest-use t (layers-below n (g .base)) → r ≡ freshest-use t (chain g)
 unfolding freshest-use
-chain-fresh g n t r own below e m p q s d =
-    p ∙ ap₂ max-option (q ∙ ap last-use-of s) (d ∙ ap (λ (i : ℕ). freshest-use t (layers-below i (g .base))) m ∙ ap (freshest-use t) (below-all (g .base)))
+chain-fresh g n t r own below m p q d =
+    p ∙ ap₂ max-option q (d ∙ ap (λ (i : ℕ). freshest-use t (layers-below i (g .base))) m ∙ ap (freshest-use t) (below-all (g .base)))
 
-chain-held : (g : Generation) (t : Slot) (own : Held) (e : Option Content) → held-option own ≡ value-of e → e ≡ find t (g .top) → or-else (held-option own) (held-value t (g .base)) ≡ held-value t (chain g)
+chain-held : (g : Generation) (t : Slot) (own : Held) → held-option own ≡ value-of (find t (g .top)) → or-else (held-option own) (held-value t (g .base)) ≡ held-value t (chain g)
 unfolding held-value
-chain-held g t own e p q = ap (λ (x : Option Value). or-else x (held-value t (g .base))) (p ∙ ap value-of q)
+chain-held g t own p = ap (λ (x : Option Value). or-else x (held-value t (g .base))) p
 
-pub chain-here : (g : Generation) (t : Slot) (own : Held) (e : Option Content) (v : U256) → held-option own ≡ value-of e → e ≡ find t (g .top) → own ≡ HeldValue v → held-option own ≡ held-value t (chain g)
-chain-here g t own e v p q d = ap held-option d ∙ sym (ap (λ (x : Held). or-else (held-option x) (held-value t (g .base))) d) ∙ chain-held g t own e p q
+pub chain-here : (g : Generation) (t : Slot) (own : Held) (v : U256) → held-option own ≡ value-of (find t (g .top)) → own ≡ HeldValue v → held-option own ≡ held-value t (chain g)
+chain-here g t own v p d = ap held-option d ∙ sym (ap (λ (x : Held). or-else (held-option x) (held-value t (g .base))) d) ∙ chain-held g t own p
 
-pub chain-below : (g : Generation) (n : ℕ) (t : Slot) (own : Held) (e : Option Content) (r : Option Value) → n ≡ length (g .base)
-    → held-option own ≡ value-of e → e ≡ find t (g .top) → own ≡ Nothing → r ≡ held-value t (layers-below n (g .base)) → r ≡ held-value t (chain g)
-chain-below g n t own e r m p q d s =
+pub chain-below : (g : Generation) (n : ℕ) (t : Slot) (own : Held) (r : Option Value) → n ≡ length (g .base)
+    → held-option own ≡ value-of (find t (g .top)) → own ≡ Nothing → r ≡ held-value t (layers-below n (g .base)) → r ≡ held-value t (chain g)
+chain-below g n t own r m p d s =
     s ∙ ap (λ (i : ℕ). held-value t (layers-below i (g .base))) m ∙ ap (held-value t) (below-all (g .base))
-    ∙ sym (ap (λ (x : Held). or-else (held-option x) (held-value t (g .base))) d) ∙ chain-held g t own e p q
+    ∙ sym (ap (λ (x : Held). or-else (held-option x) (held-value t (g .base))) d) ∙ chain-held g t own p
 
 -- What a look answers ---------------------------------------------------------------------------------
 

@@ -1,2 +1,2 @@
--- What the answers of a search mean.
+-- What the answer of a search for a use means.
 pub mod Answers

@@ -1,37 +1,25 @@
 // The layers of a store's generation: its header, and a slot's last use and value searched from a layer down.
+use model::delta_snapshot::Held;
 use model::delta_snapshot::Retention;
 use model::delta_snapshot::Slot;
-use model::storage_memo::U256;
 use records::Found;
 ghost use mathlib.Core.Path.{_≡_};
 ghost use mathlib.Core.Bool.{true};
 ghost use Prim.Native.Nat.{_+_, _*_, _≤_, _<_};
 ghost use lib.ListN.{length};
 ghost use Rattle.layout.specs.Layout.{record-size};
-ghost use Rattle.model.specs.Layers.{is-some, max-option, find, last-use-of, value-of, held-value, freshest-use, record-count};
+ghost use Rattle.model.specs.Contents.{is-some, max-option, held-option, last-use-of, value-of, valued-use};
+ghost use Rattle.model.specs.Layers.{find, held-value, freshest-use, record-count};
 ghost use Rattle.model.specs.Store.{chain, resolved};
 ghost use Rattle.image.specs.WellFormed.{rising};
 ghost use Rattle.image.specs.Area.{records-of, layers-below};
 ghost use Rattle.image.specs.Lent.{store-of, generation-of, IsStore, Installed, layer-of};
-ghost use Rattle.layers.specs.Answers.{use-option, held-option, entry-content};
+ghost use Rattle.layers.specs.Answers.{use-option};
 
 // The last use of a slot, if it has one.
 pub enum Use {
     None,
     At(u64),
-}
-
-// The value of a slot, if it has one.
-pub enum Held {
-    Nothing,
-    Value(U256),
-}
-
-// The record of a slot in a layer, if it has one: its last use alone, or with its value.
-pub enum Entry {
-    Absent,
-    Used(u64),
-    Valued(u64, U256),
 }
 
 // The store's retention.
@@ -112,63 +100,95 @@ fn later(a: Use, b: Use) -> Use
     if x < y { b } else { a }
 }
 
-// The record of a slot among the n records that s begins with.
-fn entry_in(s: &[u8], n: usize, slot: Slot) -> Entry
+// The last use of a slot among the n records that s begins with.
+fn use_in(s: &[u8], n: usize, slot: Slot) -> Use
     requires { ⌜ (n * record-size ≤ length (now s)) × (rising (records-of n (now s)) ≡ true) ⌝ }
-    ensures { λ r. ⌜ entry-content r ≡ find slot (records-of n (now (s .entry))) ⌝ }
+    ensures { λ r. ⌜ use-option r ≡ last-use-of (find slot (records-of n (now (s .entry)))) ⌝ }
 {
     let f = records::find(s, n, slot);
     let Found::At(i) = f else {
-        return Entry::Absent;
+        return Use::None;
     };
-    let u = records::last_use(s, i);
-    if records::has_value(s, i) {
-        return Entry::Valued(u, records::value(s, i));
-    }
-    Entry::Used(u)
+    Use::At(records::last_use(s, i))
 }
 
-// The record of a slot in layer k.
-fn layer_entry(s: &[u8], k: usize, slot: Slot) -> Entry
+// The same, of a record that has a value.
+fn valued_use_in(s: &[u8], n: usize, slot: Slot) -> Use
+    requires { ⌜ (n * record-size ≤ length (now s)) × (rising (records-of n (now s)) ≡ true) ⌝ }
+    ensures { λ r. ⌜ use-option r ≡ valued-use (find slot (records-of n (now (s .entry)))) ⌝ }
+{
+    let f = records::find(s, n, slot);
+    let Found::At(i) = f else {
+        return Use::None;
+    };
+    if records::has_value(s, i) {
+        return Use::At(records::last_use(s, i));
+    }
+    Use::None
+}
+
+// The value of a slot among the n records that s begins with.
+fn value_in(s: &[u8], n: usize, slot: Slot) -> Held
+    requires { ⌜ (n * record-size ≤ length (now s)) × (rising (records-of n (now s)) ≡ true) ⌝ }
+    ensures { λ r. ⌜ held-option r ≡ value-of (find slot (records-of n (now (s .entry)))) ⌝ }
+{
+    let f = records::find(s, n, slot);
+    let Found::At(i) = f else {
+        return Held::Nothing;
+    };
+    records::held(s, i)
+}
+
+// The last use of a slot in layer k.
+fn layer_use(s: &[u8], k: usize, slot: Slot) -> Use
     requires { ⌜ Installed (now s) × (k < length (generation-of (now s) .base)) ⌝ }
-    ensures { λ r. ⌜ entry-content r ≡ find slot (layer-of k (generation-of (now (s .entry)) .base)) ⌝ }
+    ensures { λ r. ⌜ use-option r ≡ last-use-of (find slot (layer-of k (generation-of (now (s .entry)) .base))) ⌝ }
 {
     let start = layer_start(s, k);
     let n = layer_start(s, k + 1) - start;
     let at = layout::RECORDS_OFFSET + layout::RECORD_SIZE * start;
-    entry_in(&s[at..], n, slot)
+    use_in(&s[at..], n, slot)
 }
 
-// The record of a slot in the top.
-pub fn top_entry(s: &[u8], slot: Slot) -> Entry
+// The value of a slot in layer k.
+fn layer_value(s: &[u8], k: usize, slot: Slot) -> Held
+    requires { ⌜ Installed (now s) × (k < length (generation-of (now s) .base)) ⌝ }
+    ensures { λ r. ⌜ held-option r ≡ value-of (find slot (layer-of k (generation-of (now (s .entry)) .base))) ⌝ }
+{
+    let start = layer_start(s, k);
+    let n = layer_start(s, k + 1) - start;
+    let at = layout::RECORDS_OFFSET + layout::RECORD_SIZE * start;
+    value_in(&s[at..], n, slot)
+}
+
+// The last use of a slot in the top.
+pub fn top_use(s: &[u8], slot: Slot) -> Use
     requires { ⌜ Installed (now s) ⌝ }
-    ensures { λ r. ⌜ entry-content r ≡ find slot (generation-of (now (s .entry)) .top) ⌝ }
+    ensures { λ r. ⌜ use-option r ≡ last-use-of (find slot (generation-of (now (s .entry)) .top)) ⌝ }
 {
     let n = top_count(s);
     let at = layout::RECORDS_OFFSET + layout::RECORD_SIZE * top_start(s);
-    entry_in(&s[at..], n, slot)
+    use_in(&s[at..], n, slot)
 }
 
-// The last use of a record.
-fn use_of(e: Entry) -> Use
-    ensures { λ r. ⌜ use-option r ≡ last-use-of (entry-content e) ⌝ }
+// The same, of a record that has a value.
+pub fn top_valued_use(s: &[u8], slot: Slot) -> Use
+    requires { ⌜ Installed (now s) ⌝ }
+    ensures { λ r. ⌜ use-option r ≡ valued-use (find slot (generation-of (now (s .entry)) .top)) ⌝ }
 {
-    match e {
-        Entry::Absent => Use::None,
-        Entry::Used(u) => Use::At(u),
-        Entry::Valued(u, _) => Use::At(u),
-    }
+    let n = top_count(s);
+    let at = layout::RECORDS_OFFSET + layout::RECORD_SIZE * top_start(s);
+    valued_use_in(&s[at..], n, slot)
 }
 
-// The value of a record.
-fn value_of(e: Entry) -> Held
-    ensures { λ r. ⌜ held-option r ≡ value-of (entry-content e) ⌝ }
+// The value of a slot in the top.
+fn top_value(s: &[u8], slot: Slot) -> Held
+    requires { ⌜ Installed (now s) ⌝ }
+    ensures { λ r. ⌜ held-option r ≡ value-of (find slot (generation-of (now (s .entry)) .top)) ⌝ }
 {
-    match e {
-        Entry::Absent => Held::Nothing,
-        Entry::Used(_) => Held::Nothing,
-        Entry::Valued(_, v) => Held::Value(v),
-    }
+    let n = top_count(s);
+    let at = layout::RECORDS_OFFSET + layout::RECORD_SIZE * top_start(s);
+    value_in(&s[at..], n, slot)
 }
 
 // The largest last use of a slot in the layers below k: in layer k - 1, or from there down.
@@ -179,7 +199,7 @@ pub fn freshest_use(s: &[u8], k: usize, slot: Slot) -> Use
     if k == 0 {
         return Use::None;
     }
-    let own = use_of(layer_entry(s, k - 1, slot));
+    let own = layer_use(s, k - 1, slot);
     let below = freshest_use(s, k - 1, slot);
     later(own, below)
 }
@@ -192,7 +212,7 @@ pub fn held_value(s: &[u8], k: usize, slot: Slot) -> Held
     if k == 0 {
         return Held::Nothing;
     }
-    let own = value_of(layer_entry(s, k - 1, slot));
+    let own = layer_value(s, k - 1, slot);
     let Held::Nothing = own else {
         return own;
     };
@@ -204,7 +224,7 @@ pub fn chain_use(s: &[u8], slot: Slot) -> Use
     requires { ⌜ Installed (now s) ⌝ }
     ensures { λ r. ⌜ use-option r ≡ freshest-use slot (chain (generation-of (now (s .entry)))) ⌝ }
 {
-    let own = use_of(top_entry(s, slot));
+    let own = top_use(s, slot);
     let below = freshest_use(s, layers(s), slot);
     later(own, below)
 }
@@ -214,7 +234,7 @@ pub fn chain_value(s: &[u8], slot: Slot) -> Held
     requires { ⌜ Installed (now s) ⌝ }
     ensures { λ r. ⌜ held-option r ≡ held-value slot (chain (generation-of (now (s .entry)))) ⌝ }
 {
-    let own = value_of(top_entry(s, slot));
+    let own = top_value(s, slot);
     let Held::Nothing = own else {
         return own;
     };

@@ -224,6 +224,12 @@ pub fn advance_line(out: &mut [u8], at: usize, outcome: CarryOutcome, c: Advance
     match outcome {
         CarryOutcome::AlreadyCurrent => current_line(out, at, c),
         CarryOutcome::Carried(n) => carried_line(out, at, n, c),
-        CarryOutcome::Cold(l, k) => cold_line(out, at, lineage_number(l), skip_number(k), c),
+        CarryOutcome::Cold { lineage, bal } => cold_line(
+            out,
+            at,
+            lineage_number(lineage),
+            skip_number(bal),
+            c,
+        ),
     }
 }

@@ -5,13 +5,14 @@ use mathlib.Core.Bool.{Bool, true, false, _||_, cond}
 use mathlib.Core.List.{List, [], _∷_, _++_}
 use mathlib.Core.Option.{Option, some, none}
 use Rattle.model.specs.Slots.{Value, LastUse, Slot, slot-eqb, slot-ltb, mem, Retention, serves}
-use Rattle.model.specs.Layers.{Content, valued, Layer, find, insert, held-value, freshest-use, slots, all-slots}
+use Rattle.model.specs.Contents.{valued, or-else}
+use Rattle.model.specs.Layers.{LayerOf, Layer, find, insert, held-value, freshest-use, slots, all-slots}
 use Rattle.model.specs.Advance.{compact-slots, compact-slot, is-void}
 use Rattle.model.proofs.SlotLaws.{split, or-false-left, or-false-right, slot-eqb-true, slot-eqb-sym, slot-eqb-apart}
 use Rattle.model.proofs.SlotRelation.{compacted-content}
 
 -- A search after an insert: the new content for that slot, and as before for any other.
-pub find-insert : (s t : Slot) (c : Content) (l : Layer) → find t (insert s c l) ≡ cond (slot-eqb s t) (some c) (find t l)
+pub find-insert : {A : Type 0} (s t : Slot) (c : A) (l : LayerOf A) → find t (insert s c l) ≡ cond (slot-eqb s t) (some c) (find t l)
 unfolding find insert
 find-insert s t c [] = refl
 find-insert s t c (r ∷ l) =
@@ -26,7 +27,7 @@ mem-append s [] b = refl
 mem-append s (t ∷ a) b = split (slot-eqb t s) (λ e. rw e) (λ e. rw e (mem-append s a b))
 
 -- A slot with no record in a layer, and in a chain.
-pub find-none : (s : Slot) (l : Layer) → mem s (slots l) ≡ false → find s l ≡ none
+pub find-none : {A : Type 0} (s : Slot) (l : LayerOf A) → mem s (slots l) ≡ false → find s l ≡ none
 unfolding mem slots find
 find-none s [] e = refl
 find-none s (r ∷ l) e = rw (or-false-left (slot-eqb (r .slot) s) (mem s (slots l)) e) (find-none s l (or-false-right (slot-eqb (r .slot) s) (mem s (slots l)) e))
@@ -40,22 +41,17 @@ freshest-use-none s (l ∷ ls) e =
 
 -- Folds --------------------------------------------------------------------------------------------
 
--- The first of two contents if it is there, else the second.
-abbrev or-else-content : Option Content → Option Content → Option Content
-or-else-content none d = d
-or-else-content (some c) d = some c
-
 -- A search after one slot's part of a fold, and after those of a list of slots.
-find-compact-slot : (R : Retention) (n : ℕ) (t s : Slot) (f : Option LastUse) (h : Option Value) (l : Layer) → find s (compact-slot R n t f h l) ≡ cond (slot-eqb t s) (or-else-content (compacted-content R n f h) (find s l)) (find s l)
+find-compact-slot : (R : Retention) (n : ℕ) (t s : Slot) (f : Option LastUse) (h : Option Value) (l : Layer) → find s (compact-slot R n t f h l) ≡ cond (slot-eqb t s) (or-else (compacted-content R n f h) (find s l)) (find s l)
 find-compact-slot R n t s none h l = split (slot-eqb t s) (λ e. rw e) (λ e. rw e)
 find-compact-slot R n t s (some u) none l = split (slot-eqb t s) (λ e. rw e) (λ e. rw e)
 find-compact-slot R n t s (some u) (some v) l =
     split (serves R u n) (λ e. rw (e, find-insert t s (valued u v) l)) (λ e. rw e (split (slot-eqb t s) (λ y. rw y) (λ y. rw y)))
 
-or-else-content-same : (c : Option Content) (b : Bool) → or-else-content c (cond b c none) ≡ c
-or-else-content-same none true = refl
-or-else-content-same none false = refl
-or-else-content-same (some c) b = refl
+or-else-same : {A : Type 0} (c : Option A) (b : Bool) → or-else c (cond b c none) ≡ c
+or-else-same none true = refl
+or-else-same none false = refl
+or-else-same (some c) b = refl
 
 find-compact-slots : (R : Retention) (n : ℕ) (b : List Layer) (s : Slot) (ss : List Slot) → find s (compact-slots R n b ss) ≡ cond (mem s ss) (compacted-content R n (freshest-use s b) (held-value s b)) none
 unfolding compact-slots mem find
@@ -63,7 +59,7 @@ find-compact-slots R n b s [] = refl
 find-compact-slots R n b s (t ∷ ss) =
     rw (find-compact-slot R n t s (freshest-use t b) (held-value t b) (compact-slots R n b ss), find-compact-slots R n b s ss)
     (split (slot-eqb t s)
-    (λ e. rw (e, slot-eqb-true t s e) (or-else-content-same (compacted-content R n (freshest-use s b) (held-value s b)) (mem s ss)))
+    (λ e. rw (e, slot-eqb-true t s e) (or-else-same (compacted-content R n (freshest-use s b) (held-value s b)) (mem s ss)))
     (λ e. rw e))
 
 -- The content of a slot's record in the one layer that a fold leaves.

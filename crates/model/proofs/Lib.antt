@@ -2,10 +2,12 @@
 pub mod NumberLaws
 pub mod EntryLaws
 pub mod SlotLaws
+pub mod WordLaws
 pub mod MapLaws
 pub mod RuleLaws
 pub mod AwaitingLaws
 pub mod SlotRelation
+pub mod ContentLaws
 pub mod WriteLaws
 pub mod LayerLaws
 pub mod Count

@@ -5,7 +5,8 @@ use mathlib.Core.Bool.{Bool, true, false}
 use mathlib.Core.List.{List, [], _∷_, _++_}
 use mathlib.Core.Option.{Option, some, none}
 use Rattle.model.specs.Slots.{Address, Value, LastUse, Slot, slot-eqb, mem, Retention}
-use Rattle.model.specs.Layers.{Content, valued, Layer, find, insert, held-value, freshest-use, all-slots, count-distinct, is-some, live-count}
+use Rattle.model.specs.Contents.{Content, valued, valued-use, is-some}
+use Rattle.model.specs.Layers.{Layer, find, insert, held-value, freshest-use, all-slots, count-distinct, live-count}
 use Rattle.model.specs.Advance.{Write, WriteKind, overwrite, new, skip, relevant, count-write, final-write-kind, seed-final-writes, apply-write, compact, compact-if, seal, void-base}
 use Rattle.model.specs.Reads.{Member, settle-outcome, settle-members}
 use Rattle.model.specs.Store.{Generation, resolved, chain}
@@ -57,7 +58,7 @@ WrittenSlots d l = (s : Slot) → Written (mem s d) (find s l)
 written-slots-insert : (d : List Slot) (l : Layer) (s : Slot) (u : LastUse) (v : Value) → WrittenSlots d l → WrittenSlots (d ++ (s ∷ [])) (insert s (valued u v) l)
 written-slots-insert d l s u v h t =
     rw (find-insert s t (valued u v) l, mem-append t d (s ∷ []), mem-one s t)
-    (split (slot-eqb s t) (λ e. rw (e, or-any (mem t d)) written) (λ e. rw (e, or-none (mem t d)) (h t)))
+    (split (slot-eqb s t) (λ e. rw (e, or-any (mem t d)) (written refl)) (λ e. rw (e, or-none (mem t d)) (h t)))
 
 written-slots-write : (n : ℕ) (l : Layer) (k : WriteKind) (w : Write) (z : Writing) → WrittenSlots (z .applied) l → WrittenSlots (write-of-kind n k w z .applied) (apply-write n k (w .slot) (w .value) l)
 written-slots-write n l (overwrite u) w z h = written-slots-insert (z .applied) l (w .slot) u (w .value) h
@@ -88,7 +89,7 @@ agree-seed-final-writes R n relevance b (w ∷ ws) l z y h =
     let x : Value = w .value in
     let q : Bool = ledger-relevant relevance s in
     let k : WriteKind = kind-of R n relevance w z in
-    let k′ : WriteKind = final-write-kind R n (relevant relevance (s .address)) (find s l) (freshest-use s b) in
+    let k′ : WriteKind = final-write-kind R n (relevant relevance (s .address)) (valued-use (find s l)) (freshest-use s b) in
     let same-kind : k′ ≡ k = rw (relevant-same relevance s) (relation-write-kind q (y s) (h s)) in
     let z′ : Writing = write-of-kind n k w z in
     let r : SeedAgree R n relevance b ws (apply-write n k s x l) z′ (write-all R n relevance ws z′) =

@@ -7,10 +7,11 @@ use mathlib.Core.Option.{Option, some, none, Option·none-ne-some}
 use native.Mathlib.Omega.{arith}
 use borrow.Author.Tests.{leb-false, lt-leb}
 use Rattle.model.specs.Slots.{Value, LastUse, Retention, Unbounded, IdleBlocks, serves}
-use Rattle.model.specs.Layers.{Content, use-only, valued, resolved-through-policy, last-use-of, value-of, or-else, max-option, touch}
+use Rattle.model.specs.Contents.{Content, valued, or-else, max-option, use-of, own-value, has-value, last-use-of, value-of, valued-use, touch}
+use Rattle.model.specs.Layers.{resolved-through-policy}
 use Rattle.model.specs.Advance.{WriteKind, overwrite, new, skip, unserved-kind, final-write-kind}
 use Rattle.model.specs.FlatLedger.{Kept, kept, in-date, value-in-date}
-use Rattle.model.proofs.SlotLaws.{split}
+use Rattle.model.proofs.SlotLaws.{split, not-both}
 use Rattle.model.proofs.RuleLaws.{serves-in-date}
 
 -- The six cases that a slot can be in.
@@ -22,15 +23,15 @@ pub data SlotRelation (R : Retention) (n : ℕ) : Option Content → Option Last
   -- records in the base alone, lapsed or not
   base-only : (u : LastUse) (v : Value) → u ≤ n → SlotRelation R n none (some u) (some v) (some (kept u v))
   -- a use alone in the top, and the value in the base, whose use serves
-  use-in-top : (u u′ : LastUse) (v : Value) → u ≤ u′ → u′ ≤ n → serves R u n ≡ true → SlotRelation R n (some (use-only u′)) (some u) (some v) (some (kept u′ v))
+  use-in-top : (u : LastUse) (c : Content) (v : Value) → own-value c ≡ none → u ≤ use-of c → use-of c ≤ n → serves R u n ≡ true → SlotRelation R n (some c) (some u) (some v) (some (kept (use-of c) v))
   -- a value in the top, and nothing in the base
-  top-only : (u : LastUse) (v : Value) → u ≤ n → SlotRelation R n (some (valued u v)) none none (some (kept u v))
+  top-only : (c : Content) (v : Value) → own-value c ≡ some v → use-of c ≤ n → SlotRelation R n (some c) none none (some (kept (use-of c) v))
   -- a value in the top, which is the slot's, and another in the base
-  top-over-base : (u : LastUse) (w : Value) (u′ : LastUse) (v : Value) → u ≤ u′ → u′ ≤ n → SlotRelation R n (some (valued u′ v)) (some u) (some w) (some (kept u′ v))
+  top-over-base : (u : LastUse) (w : Value) (c : Content) (v : Value) → own-value c ≡ some v → u ≤ use-of c → use-of c ≤ n → SlotRelation R n (some c) (some u) (some w) (some (kept (use-of c) v))
 
 -- Within a list of writes the top has a value of exactly the slots written so far, and no use alone.
 pub data Written : Bool → Option Content → Type 0 where
-  written : {u : LastUse} {v : Value} → Written true (some (valued u v))
+  written : {c : Content} → has-value c ≡ true → Written true (some c)
   unwritten : Written false none
 
 -- A use that has lapsed at a number has lapsed at the next.
@@ -84,26 +85,27 @@ module _ {R : Retention} {n : ℕ} where
   relation-resolved absent = refl
   relation-resolved (dropped u v e) = rw (← serves-in-date R u n, e)
   relation-resolved (base-only u v p) = rw (serves-in-date R u n)
-  relation-resolved (use-in-top u u′ v p q e) = rw (max-left u′ u p, serves-in-date R u′ n)
-  relation-resolved (top-only u v p) = rw (serves-in-date R u n)
-  relation-resolved (top-over-base u w u′ v p q) = rw (max-left u′ u p, serves-in-date R u′ n)
+  relation-resolved (use-in-top u c v a p q e) = rw (a, max-left (use-of c) u p, serves-in-date R (use-of c) n)
+  relation-resolved (top-only c v a p) = rw (a, serves-in-date R (use-of c) n)
+  relation-resolved (top-over-base u w c v a p q) = rw (a, max-left (use-of c) u p, serves-in-date R (use-of c) n)
 
   -- A write is of the same kind in both.
-  pub relation-write-kind : (b : Bool) {d : Bool} {t : Option Content} {f : Option LastUse} {h : Option Value} {m : Option Kept} → Written d t → SlotRelation R n t f h m → final-write-kind R n b t f ≡ ledger-kind R n b d m
+  pub relation-write-kind : (b : Bool) {d : Bool} {t : Option Content} {f : Option LastUse} {h : Option Value} {m : Option Kept} → Written d t → SlotRelation R n t f h m → final-write-kind R n b (valued-use t) f ≡ ledger-kind R n b d m
   relation-write-kind b unwritten absent = refl
   relation-write-kind b unwritten (dropped u v e) = rw (← serves-in-date R u n, e)
   relation-write-kind b unwritten (base-only u v p) = rw (serves-in-date R u n, or-none (in-date R u n))
-  relation-write-kind b written (top-only u v p) = rw (or-any (in-date R u n))
-  relation-write-kind b written (top-over-base u w u′ v p q) = rw (or-any (in-date R u′ n))
+  relation-write-kind b (written k) (use-in-top u c v a p q e) = not-both k (rw a)
+  relation-write-kind b (written k) (top-only c v a p) = rw (k, or-any (in-date R (use-of c) n))
+  relation-write-kind b (written k) (top-over-base u w c v a p q) = rw (k, or-any (in-date R (use-of c) n))
 
   -- A put, and a write of kind `new`.
   pub relation-settle : (x : Value) {t : Option Content} {f : Option LastUse} {h : Option Value} {m : Option Kept} → SlotRelation R n t f h m → SlotRelation R n (some (valued n x)) f h (some (kept n x))
-  relation-settle x absent = top-only n x (omega arith)
-  relation-settle x (dropped u v e) = top-only n x (omega arith)
-  relation-settle x (base-only u v p) = top-over-base u v n x p (omega arith)
-  relation-settle x (use-in-top u u′ v p q e) = top-over-base u v n x (omega arith) (omega arith)
-  relation-settle x (top-only u v p) = top-only n x (omega arith)
-  relation-settle x (top-over-base u w u′ v p q) = top-over-base u w n x (omega arith) (omega arith)
+  relation-settle x absent = top-only (valued n x) x refl (omega arith)
+  relation-settle x (dropped u v e) = top-only (valued n x) x refl (omega arith)
+  relation-settle x (base-only u v p) = top-over-base u v (valued n x) x refl p (omega arith)
+  relation-settle x (use-in-top u c v a p q e) = top-over-base u v (valued n x) x refl (omega arith) (omega arith)
+  relation-settle x (top-only c v a p) = top-only (valued n x) x refl (omega arith)
+  relation-settle x (top-over-base u w c v a p q) = top-over-base u w (valued n x) x refl (omega arith) (omega arith)
 
   -- A write to a slot that is not served: a new one sets the last use to the number, a skipped one does nothing.
   relation-unserved : (x : Value) (b : Bool) {t : Option Content} {f : Option LastUse} {h : Option Value} {m : Option Kept} → SlotRelation R n t f h m → SlotRelation R n (content-after n (unserved-kind b) x t) f h (lookup-after n (unserved-kind b) x m)
@@ -115,33 +117,34 @@ module _ {R : Retention} {n : ℕ} where
   relation-apply-write x b unwritten absent = relation-unserved x b absent
   relation-apply-write x b unwritten (dropped u v e) = rw (← serves-in-date R u n, e) (relation-unserved x b (dropped u v e))
   relation-apply-write x b unwritten (base-only u v p) =
-      rw (or-none (in-date R u n)) (split (in-date R u n) (λ e. rw e (top-over-base u v u x (omega arith) p)) (λ e. rw e (relation-unserved x b (base-only u v p))))
-  relation-apply-write x b written (top-only u v p) = rw (or-any (in-date R u n)) (top-only u x p)
-  relation-apply-write x b written (top-over-base u w u′ v p q) = rw (or-any (in-date R u′ n)) (top-over-base u w u′ x p q)
+      rw (or-none (in-date R u n)) (split (in-date R u n) (λ e. rw e (top-over-base u v (valued u x) x refl (omega arith) p)) (λ e. rw e (relation-unserved x b (base-only u v p))))
+  relation-apply-write x b (written k) (use-in-top u c v a p q e) = not-both k (rw a)
+  relation-apply-write x b (written k) (top-only c v a p) = rw (or-any (in-date R (use-of c) n)) (top-only (valued (use-of c) x) x refl p)
+  relation-apply-write x b (written k) (top-over-base u w c v a p q) = rw (or-any (in-date R (use-of c) n)) (top-over-base u w (valued (use-of c) x) x refl p q)
 
   -- A use of a served slot.
   pub relation-touch : (x : Value) {t : Option Content} {f : Option LastUse} {h : Option Value} {m : Option Kept} → SlotRelation R n t f h m → value-in-date R n m ≡ some x → SlotRelation R n (some (touch n t)) f h (some (kept n x))
   relation-touch x absent q = absurd (Option·none-ne-some x q)
   relation-touch x (dropped u v e) q = absurd (Option·none-ne-some x (rw (← serves-in-date R u n, e) at q))
-  relation-touch x (base-only u v p) q = let z : (in-date R u n ≡ true) × (v ≡ x) = resolved-known R n u v x q in rw (← z .1) (use-in-top u n v p (omega arith) (serves-in-date R u n ∙ z .0))
-  relation-touch x (use-in-top u u′ v p r s) q = let z : (in-date R u′ n ≡ true) × (v ≡ x) = resolved-known R n u′ v x q in rw (← z .1) (use-in-top u n v (omega arith) (omega arith) s)
-  relation-touch x (top-only u v p) q = let z : (in-date R u n ≡ true) × (v ≡ x) = resolved-known R n u v x q in rw (← z .1) (top-only n v (omega arith))
-  relation-touch x (top-over-base u w u′ v p r) q = let z : (in-date R u′ n ≡ true) × (v ≡ x) = resolved-known R n u′ v x q in rw (← z .1) (top-over-base u w n v (omega arith) (omega arith))
+  relation-touch x (base-only u v p) q = let z : (in-date R u n ≡ true) × (v ≡ x) = resolved-known R n u v x q in rw (← z .1) (use-in-top u (touch n none) v refl p (omega arith) (serves-in-date R u n ∙ z .0))
+  relation-touch x (use-in-top u c v a p r s) q = let z : v ≡ x = resolved-known R n (use-of c) v x q .1 in rw (← z) (use-in-top u (touch n (some c)) v a (omega arith) (omega arith) s)
+  relation-touch x (top-only c v a p) q = let z : v ≡ x = resolved-known R n (use-of c) v x q .1 in rw (← z) (top-only (touch n (some c)) v a (omega arith))
+  relation-touch x (top-over-base u w c v a p r) q = let z : v ≡ x = resolved-known R n (use-of c) v x q .1 in rw (← z) (top-over-base u w (touch n (some c)) v a (omega arith) (omega arith))
 
   -- A fold of the base.
   pub relation-compact : {t : Option Content} {f : Option LastUse} {h : Option Value} {m : Option Kept} → SlotRelation R n t f h m → SlotRelation R n t (max-option (last-use-of (compacted-content R n f h)) none) (or-else (value-of (compacted-content R n f h)) none) m
   relation-compact absent = absent
   relation-compact (dropped u v e) = dropped u v e
   relation-compact (base-only u v p) = split (serves R u n) (λ e. rw e (base-only u v p)) (λ e. rw e (dropped u v e))
-  relation-compact (use-in-top u u′ v p q e) = rw e (use-in-top u u′ v p q e)
-  relation-compact (top-only u v p) = top-only u v p
-  relation-compact (top-over-base u w u′ v p q) = split (serves R u n) (λ e. rw e (top-over-base u w u′ v p q)) (λ e. rw e (top-only u′ v q))
+  relation-compact (use-in-top u c v a p q e) = rw e (use-in-top u c v a p q e)
+  relation-compact (top-only c v a p) = top-only c v a p
+  relation-compact (top-over-base u w c v a p q) = split (serves R u n) (λ e. rw e (top-over-base u w c v a p q)) (λ e. rw e (top-only c v a q))
 
   -- A seal: the top is a layer of the base, and the number is one higher.
   pub relation-seal : {t : Option Content} {f : Option LastUse} {h : Option Value} {m : Option Kept} → SlotRelation R n t f h m → SlotRelation R (suc n) none (max-option (last-use-of t) f) (or-else (value-of t) h) m
   relation-seal absent = absent
   relation-seal (dropped u v e) = dropped u v (stays-lapsed R u n e)
   relation-seal (base-only u v p) = base-only u v (omega arith)
-  relation-seal (use-in-top u u′ v p q e) = rw (max-left u′ u p) (base-only u′ v (omega arith))
-  relation-seal (top-only u v p) = base-only u v (omega arith)
-  relation-seal (top-over-base u w u′ v p q) = rw (max-left u′ u p) (base-only u′ v (omega arith))
+  relation-seal (use-in-top u c v a p q e) = rw (a, max-left (use-of c) u p) (base-only (use-of c) v (omega arith))
+  relation-seal (top-only c v a p) = rw a (base-only (use-of c) v (omega arith))
+  relation-seal (top-over-base u w c v a p q) = rw (a, max-left (use-of c) u p) (base-only (use-of c) v (omega arith))

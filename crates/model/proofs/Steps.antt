@@ -6,13 +6,14 @@ use mathlib.Core.List.{List, []}
 use mathlib.Core.Option.{Option, some, none}
 use lib.Dec.{ltb}
 use lib.ListN.{length}
-use Rattle.model.specs.Slots.{Address, Value, Hash, Slot, ReadAnchor, anchor-eqb, Retention}
-use Rattle.model.specs.Layers.{valued, Layer, find, touch, settle}
-use Rattle.model.specs.Advance.{Lineage, BalSkip, CarryOutcome, Carried, Cold, skip-of, classify-link, carries, void-base, no-compaction, CompactionReport, compact-if, compact-base, seal, Write, seed-final-writes}
+use Rattle.model.specs.Slots.{Value, Hash, Slot, ReadAnchor, anchor-eqb, Retention}
+use Rattle.model.specs.Contents.{valued, touch}
+use Rattle.model.specs.Layers.{Layer, find, settle}
+use Rattle.model.specs.Advance.{Lineage, CarryOutcome, Carried, Cold, skip-of, classify-link, carries, void-base, no-compaction, CompactionReport, compact-if, compact-base, seal, seed-final-writes}
 use Rattle.model.specs.Reads.{Member, join, take-queued, remove-all-pending, member-slots, has-duplicate, settle-members, is-awaiting, count-served, count-waiting}
-use Rattle.model.specs.Store.{Config, Generation, AnchoredCall, look, get, put, read, take, answer, answer-failed, StoreCall, install, advance, at-anchor, on-store, Performed, value-report, new-generation, with-top, with-reads, after-writes, carry, cold-advance, carry-or-cold, touched-top, perform-get, perform-read, perform-at, perform, resolved, waiting, listed}
+use Rattle.model.specs.Store.{Config, Generation, SlotCall, look, get, put, read, AnchoredCall, on-slot, take, answer, answer-failed, Prepared, StoreCall, install, advance, at-anchor, on-store, Performed, value-report, new-generation, with-top, with-reads, after-writes, carry, cold-advance, carry-or-cold, touched-top, perform-get, perform-read, perform-slot, perform-at, perform, resolved, waiting, listed}
 use Rattle.model.specs.Refusals.{answered-slots, answer-names-twice}
-use Rattle.model.specs.FlatLedger.{kept, LedgerMap, AwaitingMap, set, without, LedgerGeneration, ledger-generation, before-writes, write-all, ledger-resolved, one-more-waiter, lookup, all-marked, settle-values, ledger-link, keeps-map, compared-report, compared-outcome, LedgerPerformed, ledger-advance, ledger-carry-or-cold, ledger-look, ledger-get, ledger-read, ledger-perform-at, ledger-perform}
+use Rattle.model.specs.FlatLedger.{kept, LedgerMap, AwaitingMap, set, without, LedgerGeneration, ledger-generation, before-writes, write-all, ledger-resolved, one-more-waiter, lookup, all-marked, settle-values, ledger-link, keeps-map, compared-report, compared-outcome, LedgerPerformed, ledger-advance, ledger-carry-or-cold, ledger-look, ledger-get, ledger-read, ledger-perform-slot, ledger-perform-at, ledger-perform}
 use Rattle.model.proofs.SlotLaws.{split}
 use Rattle.model.proofs.MapLaws.{Distinct, distinct, keys, distinct-set}
 use Rattle.model.proofs.RuleLaws.{linked, carries-both, link-same, skip-same, carries-same}
@@ -34,43 +35,44 @@ unfolding keys
 agree-fresh R a = record { records = agree-empty R (a .number); one-entry = tt; awaiting = awaiting-empty }
 
 -- The writes of an advance, over a base that is related to the map.
-agree-after-writes : (cfg : Config) (child : ReadAnchor) (b : List Layer) (m : LedgerMap) (o : CarryOutcome) (c : CompactionReport) (relevance : List Address) (ws : List Write) → Agree (cfg .retention) (child .number) [] b m → Distinct (keys m)
-    → PerformAgrees (cfg .retention) (after-writes cfg child b o c (seed-final-writes (cfg .retention) (child .number) relevance b ws [])) (ledger-advance (cfg .retention) child (compared-outcome o) relevance ws m)
+agree-after-writes : (cfg : Config) (child : ReadAnchor) (b : List Layer) (m : LedgerMap) (o : CarryOutcome) (c : CompactionReport) (p : Prepared) → Agree (cfg .retention) (child .number) [] b m → Distinct (keys m)
+    → PerformAgrees (cfg .retention) (after-writes cfg child b o c (seed-final-writes (cfg .retention) (child .number) (p .relevance) b (p .writes) [])) (ledger-advance (cfg .retention) child (compared-outcome o) p m)
 unfolding ledger-advance
-agree-after-writes cfg child b m o c relevance ws h d =
+agree-after-writes cfg child b m o c p h d =
     let R : Retention = cfg .retention in
-    let z = agree-seed-final-writes R (child .number) relevance b ws [] (before-writes m) written-slots-empty h in
-    let g : Generation = new-generation child b (seed-final-writes R (child .number) relevance b ws [] .top) in
-    let m′ : LedgerMap = write-all R (child .number) relevance ws (before-writes m) .map in
-    let e : Distinct (keys m′) = distinct-write-all R (child .number) relevance ws (before-writes m) d in
+    let z = agree-seed-final-writes R (child .number) (p .relevance) b (p .writes) [] (before-writes m) written-slots-empty h in
+    let g : Generation = new-generation child b (seed-final-writes R (child .number) (p .relevance) b (p .writes) [] .top) in
+    let m′ : LedgerMap = write-all R (child .number) (p .relevance) (p .writes) (before-writes m) .map in
+    let e : Distinct (keys m′) = distinct-write-all R (child .number) (p .relevance) (p .writes) (before-writes m) d in
     record {
       relation = both-installed g m′ [] (record { records = z .0; one-entry = e; awaiting = awaiting-empty });
-      report = cc (sym (report-first m (seed-final-writes R (child .number) relevance b ws [] .applied-writes)) ∙ z .1, live-count-same R g m′ (z .0) e);
+      report = cc (sym (report-first m (seed-final-writes R (child .number) (p .relevance) b (p .writes) [] .applied-writes)) ∙ z .1, live-count-same R g m′ (z .0) e);
     }
 
-agree-cold-advance : (cfg : Config) (child : ReadAnchor) (l : Lineage) (k : BalSkip) (relevance : List Address) (ws : List Write) → PerformAgrees (cfg .retention) (cold-advance cfg child l k relevance ws) (ledger-advance (cfg .retention) child (Cold l k) relevance ws [])
+agree-cold-advance : (cfg : Config) (child : ReadAnchor) (l : Lineage) (p : Prepared) → PerformAgrees (cfg .retention) (cold-advance cfg child l p) (ledger-advance (cfg .retention) child (Cold l (skip-of (p .skip))) p [])
 unfolding cold-advance keys
-agree-cold-advance cfg child l k relevance ws = agree-after-writes cfg child void-base [] (Cold l k) no-compaction relevance ws (agree-empty (cfg .retention) (child .number)) tt
+agree-cold-advance cfg child l p = agree-after-writes cfg child void-base [] (Cold l (skip-of (p .skip))) no-compaction p (agree-empty (cfg .retention) (child .number)) tt
 
-agree-carry : (cfg : Config) (g : Generation) (m : LedgerMap) (child : ReadAnchor) (relevance : List Address) (ws : List Write) → Agree (cfg .retention) (g .anchor .number) (g .top) (g .base) m → Distinct (keys m) → child .number ≡ suc (g .anchor .number) → PerformAgrees (cfg .retention) (carry cfg g child relevance ws) (ledger-advance (cfg .retention) child (Carried 0) relevance ws m)
+agree-carry : (cfg : Config) (g : Generation) (m : LedgerMap) (child : ReadAnchor) (p : Prepared) → Agree (cfg .retention) (g .anchor .number) (g .top) (g .base) m → Distinct (keys m) → child .number ≡ suc (g .anchor .number) → PerformAgrees (cfg .retention) (carry cfg g child p) (ledger-advance (cfg .retention) child (Carried 0) p m)
 unfolding carry compact-base
-agree-carry cfg g m child relevance ws h d e =
+agree-carry cfg g m child p h d e =
     let R : Retention = cfg .retention in
     let n : ℕ = g .anchor .number in
     let due : Bool = ltb (cfg .max-depth) (length (g .base)) in
     let b : List Layer = compact-if due R n (g .base) .base in
     let k : Agree R (child .number) [] (seal (g .top) b) m = subst (λ (i : ℕ). Agree R i [] (seal (g .top) b) m) (sym e) (agree-seal R n (g .top) b m (agree-compact R n (g .top) (g .base) m due h)) in
-    agree-after-writes cfg child (seal (g .top) b) m (Carried _) (compact-if due R n (g .base) .report) relevance ws k d
+    agree-after-writes cfg child (seal (g .top) b) m (Carried _) (compact-if due R n (g .base) .report) p k d
 
-agree-carry-or-cold : (cfg : Config) (g : Generation) (m : LedgerMap) (child : ReadAnchor) (h : Hash) (k : ℕ) (relevance : List Address) (ws : List Write) → Agree (cfg .retention) (g .anchor .number) (g .top) (g .base) m → Distinct (keys m)
-    → PerformAgrees (cfg .retention) (carry-or-cold cfg g child (classify-link (some (g .anchor)) child h) (skip-of k) relevance ws) (ledger-carry-or-cold (cfg .retention) m child (ledger-link (some (g .anchor)) child h) k relevance ws)
-agree-carry-or-cold cfg g m child h k relevance ws a d =
+agree-carry-or-cold : (cfg : Config) (g : Generation) (m : LedgerMap) (child : ReadAnchor) (h : Hash) (p : Prepared) → Agree (cfg .retention) (g .anchor .number) (g .top) (g .base) m → Distinct (keys m)
+    → PerformAgrees (cfg .retention) (carry-or-cold cfg g child (classify-link (some (g .anchor)) child h) p) (ledger-carry-or-cold (cfg .retention) m child (ledger-link (some (g .anchor)) child h) p)
+agree-carry-or-cold cfg g m child h p a d =
+    let k : ℕ = p .skip in
     let l : Lineage = classify-link (some (g .anchor)) child h in
     let same : carries l (skip-of k) ≡ keeps-map l k = ap (carries l) (skip-same k) ∙ carries-same l k in
     rw (← link-same (some (g .anchor)) child h, ← skip-same k, ← same)
     (split (carries l (skip-of k))
-    (λ e. rw e (agree-carry cfg g m child relevance ws a d (linked (g .anchor) child h (carries-both l (skip-of k) e .0) .0)))
-    (λ e. rw e (agree-cold-advance cfg child l (skip-of k) relevance ws)))
+    (λ e. rw e (agree-carry cfg g m child p a d (linked (g .anchor) child h (carries-both l (skip-of k) e .0) .0)))
+    (λ e. rw e (agree-cold-advance cfg child l p)))
 
 -- The calls ------------------------------------------------------------------------------------------
 
@@ -83,7 +85,7 @@ agree-value-report (some v) = refl
 agree-none : (cfg : Config) (c : StoreCall) → PerformAgrees (cfg .retention) (perform cfg none c) (ledger-perform (cfg .retention) none c)
 unfolding perform ledger-perform
 agree-none cfg (install a) = record { relation = both-installed (new-generation a void-base []) [] [] (agree-fresh (cfg .retention) a); report = refl }
-agree-none cfg (advance child h k relevance ws) = rw (← skip-same k) (agree-cold-advance cfg child (classify-link none child h) (skip-of k) relevance ws)
+agree-none cfg (advance child h p) = rw (← skip-same (p .skip)) (agree-cold-advance cfg child (classify-link none child h) p)
 agree-none cfg (at-anchor a c) = record { relation = both-empty; report = refl }
 
 module _ (cfg : Config) (g : Generation) (m : LedgerMap) (a : AwaitingMap) (h : GenerationAgree (cfg .retention) g m a) where
@@ -147,16 +149,19 @@ module _ (cfg : Config) (g : Generation) (m : LedgerMap) (a : AwaitingMap) (h : 
         report = cc (woken-same (h .awaiting) ss d);
       }
 
-  agree-at : (c : AnchoredCall) → has-duplicate (answered-slots c) ≡ false → PerformAgrees R (perform-at cfg g c) (ledger-perform-at R L c)
-  agree-at (look s) d = record { relation = both-installed g m a h; report = rw (same-look s) (agree-value-report (ledger-resolved R L s)) }
-  agree-at (get s) d = rw (same-look s) (agree-get s (ledger-resolved R L s) refl)
-  agree-at (put s v) d =
+  agree-slot : (c : SlotCall) → PerformAgrees R (perform-slot cfg g c) (ledger-perform-slot R L c)
+  agree-slot (look s) = record { relation = both-installed g m a h; report = rw (same-look s) (agree-value-report (ledger-resolved R L s)) }
+  agree-slot (get s) = rw (same-look s) (agree-get s (ledger-resolved R L s) refl)
+  agree-slot (put s v) =
       record {
         relation = both-installed (with-top g (settle n s v (g .top))) (set s (kept n v) m) a
             (record { records = agree-insert R n (g .top) (g .base) m s (valued n v) n v (h .records) (relation-settle v (h .records s)); one-entry = one-entry-set s v; awaiting = h .awaiting });
         report = refl;
       }
-  agree-at (read s) d = rw (same-look s) (agree-read s (ledger-resolved R L s) refl)
+  agree-slot (read s) = rw (same-look s) (agree-read s (ledger-resolved R L s) refl)
+
+  agree-at : (c : AnchoredCall) → has-duplicate (answered-slots c) ≡ false → PerformAgrees R (perform-at cfg g c) (ledger-perform-at R L c)
+  agree-at (on-slot c) d = agree-slot c
   agree-at take d =
       record {
         relation = both-installed (with-reads g (g .top) (take-queued (g .pending)) (g .totals)) m (all-marked a)
@@ -172,10 +177,10 @@ module _ (cfg : Config) (g : Generation) (m : LedgerMap) (a : AwaitingMap) (h : 
       split (anchor-eqb (g .anchor) b)
       (λ e. rw e (record { relation = both-installed g m a h; report = refl }))
       (λ e. rw e (record { relation = both-installed (new-generation b void-base []) [] [] (agree-fresh R b); report = refl }))
-  agree-some (advance child ph k relevance ws) d =
+  agree-some (advance child ph p) d =
       split (anchor-eqb (g .anchor) child)
       (λ e. rw e (record { relation = both-installed g m a h; report = cc (live-count-same R g m (h .records) (h .one-entry)) }))
-      (λ e. rw e (agree-carry-or-cold cfg g m child ph k relevance ws (h .records) (h .one-entry)))
+      (λ e. rw e (agree-carry-or-cold cfg g m child ph p (h .records) (h .one-entry)))
   agree-some (at-anchor b c) d = agree-at c d
 
 -- A call that names no slot twice, whatever is installed.

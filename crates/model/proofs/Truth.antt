@@ -6,7 +6,7 @@ use mathlib.Core.Bool.{Bool, true, cond}
 use mathlib.Core.List.{List, [], _∷_}
 use mathlib.Core.Option.{Option, some, none, Option·none-ne-some, Option·some-ne-none}
 use Rattle.model.specs.Slots.{Address, Value, LastUse, Hash, u256-eqb, Slot, slot-eqb, mem, Known, ReadAnchor, identified, Retention}
-use Rattle.model.specs.Layers.{or-else}
+use Rattle.model.specs.Contents.{or-else}
 use Rattle.model.specs.Advance.{Write, WriteKind, overwrite, new, skip}
 use Rattle.model.specs.Reads.{Member}
 use Rattle.model.specs.FlatLedger.{Kept, kept, LedgerMap, lookup, set, in-date, value-in-date, ledger-relevant, Writing, write-one, write-all, settle-value, settle-values}

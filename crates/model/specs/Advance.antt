@@ -6,7 +6,9 @@ use mathlib.Core.Option.{Option, some, none}
 use lib.Dec.{eqb, ltb}
 use lib.ListN.{length}
 use Rattle.model.specs.Slots.{Address, address-eqb, Value, LastUse, Hash, u256-eqb, Slot, BlockHash, Unknown, Known, ReadAnchor, Retention, serves}
-use Rattle.model.specs.Layers.{Content, use-only, valued, Layer, find, held-value, freshest-use, insert, count-distinct, all-slots}
+use Rattle.model.specs.Layers.{LayerOf, Layer, find, held-value, freshest-use, insert, count-distinct, all-slots}
+pub use Rattle.model.specs.declared.delta_snapshot.CompactionReport.{CompactionReport}
+use Rattle.model.specs.Contents.{valued, valued-use}
 pub use Rattle.model.specs.declared.read_hub.Lineage.{Lineage}
 pub use Rattle.model.specs.declared.read_hub.Lineage.the-variants.{Linked, NoParent, NotConsecutive, ParentHashUnknown, ParentHashMismatch}
 pub use Rattle.model.specs.declared.bal_prefetch.BalSkip.{BalSkip}
@@ -57,7 +59,7 @@ abbrev pub void-base : List Layer
 void-base = [] ∷ []
 
 -- (The case of no layer is a filler: a base has one.)
-unfoldable pub is-void : List Layer → Bool
+unfoldable pub is-void : {A : Type 0} → List (LayerOf A) → Bool
 is-void [] = true
 is-void ([] ∷ []) = true
 is-void ([] ∷ (l ∷ ls)) = false
@@ -79,13 +81,7 @@ abbrev pub lapsed : Retention → ℕ → Option LastUse → Bool
 lapsed R now none = false
 lapsed R now (some u) = not (serves R u now)
 
--- A fold's report (`CompactionReport`): layers merged, slots left, slots dropped.
-pub record CompactionReport : Type 0 where
-  pub merged : ℕ
-  pub left : ℕ
-  pub dropped : ℕ
-
--- The report without a fold.
+-- The report (`CompactionReport`) without a fold.
 abbrev pub no-compaction : CompactionReport
 no-compaction = record { merged = 0; left = 0; dropped = 0 }
 
@@ -140,11 +136,10 @@ abbrev pub write-kind : Retention → ℕ → Bool → Option LastUse → WriteK
 write-kind R now is-relevant none = unserved-kind is-relevant
 write-kind R now is-relevant (some u) = cond (serves R u now) (overwrite u) (unserved-kind is-relevant)
 
--- What a write within a list does: a slot written earlier in this list has a value in the new top, and its use is kept.
-abbrev pub final-write-kind : Retention → ℕ → Bool → Option Content → Option LastUse → WriteKind
+-- What a write within a list does, of the last use that the new top has with a value: a slot written earlier in this list has one, and it is kept.
+abbrev pub final-write-kind : Retention → ℕ → Bool → Option LastUse → Option LastUse → WriteKind
 final-write-kind R now is-relevant none f = write-kind R now is-relevant f
-final-write-kind R now is-relevant (some (use-only u)) f = write-kind R now is-relevant f
-final-write-kind R now is-relevant (some (valued u v)) f = overwrite u
+final-write-kind R now is-relevant (some u) f = overwrite u
 
 -- Whether an address is on the call's list, which is document 01's relevant (`RelevanceSet::contains`).
 unfoldable pub relevant : List Address → Address → Bool
@@ -183,7 +178,7 @@ unfoldable pub seed-final-writes : Retention → ℕ → List Address → List L
 seed-final-writes R now relevance b [] l = record { top = l; applied-writes = no-writes }
 seed-final-writes R now relevance b (w ∷ ws) l =
     let s : Slot = w .slot in
-    let k : WriteKind = final-write-kind R now (relevant relevance (s .address)) (find s l) (freshest-use s b) in
+    let k : WriteKind = final-write-kind R now (relevant relevance (s .address)) (valued-use (find s l)) (freshest-use s b) in
     let r : SeededTop = seed-final-writes R now relevance b ws (apply-write now k s (w .value) l) in
     record { top = r .top; applied-writes = count-write k s (r .applied-writes) }
 

@@ -6,7 +6,7 @@ use mathlib.Core.Option.{Option, some, none}
 use lib.ListN.{take, length}
 use Rattle.model.specs.Slots.{Address, U256, Slot, ReadAnchor, at, identified, Retention, Unbounded, IdleBlocks}
 use Rattle.model.specs.Advance.{CarryOutcome, Carried, Cold, Lineage, NotConsecutive, ParentHashUnknown, ParentHashMismatch, Decoded, Write, AppliedWrites, CompactionReport, no-compaction, DeltaReport}
-use Rattle.model.specs.Store.{AnchoredCall, look, get, put, read, answer, StoreCall, install, advance, at-anchor, Call, open-store, on-store, Report, advanced, value, no-value, stored, waiting}
+use Rattle.model.specs.Store.{SlotCall, look, get, put, read, AnchoredCall, on-slot, answer, install, advance, at-anchor, Call, open-store, on-store, advanced, value, no-value, stored, waiting}
 use Rattle.model.specs.Refusals.{Lent, LentCall, Answer, refuse, ok, trace}
 
 -- A row: some runs on memory that is no store, and the last answer of each.
@@ -40,15 +40,18 @@ P = record { address = A; index = record { w0 = 2 ^ 63; w1 = 0; w2 = 0; w3 = 1 }
 abbrev pub write : ℕ → List Write
 write v = record { slot = P; value = small v } ∷ []
 
--- The block of a number, with the number as its hash; a call at it, and an advance to it over a parent hash.
+-- The block of a number, with the number as its hash; a call at it, one on a slot, and an advance to it over a parent hash.
 abbrev pub block : ℕ → ReadAnchor
 block n = identified n (small n)
 
 abbrev pub call-at : ℕ → AnchoredCall → Call
 call-at n c = on-store (at-anchor (block n) c)
 
+abbrev pub slot-call-at : ℕ → SlotCall → Call
+slot-call-at n c = call-at n (on-slot c)
+
 abbrev pub advance-to : ℕ → ℕ → List Address → List Write → Call
-advance-to n p relevance ws = on-store (advance (block n) (small p) 0 relevance ws)
+advance-to n p relevance ws = on-store (advance (block n) (small p) (record { skip = 0; relevance = relevance; writes = ws }))
 
 -- An advance's answer: outcome; applied slots, overwritten, skipped; held, live; merged, left, dropped.
 abbrev pub delta : CarryOutcome → List Slot → ℕ → ℕ → ℕ → ℕ → CompactionReport → Answer
@@ -61,12 +64,12 @@ unfoldable pub whole-case : List Call
 whole-case =
     open-store 4 1 (IdleBlocks 1)
     ∷ on-store (install (block 10))
-    ∷ call-at 10 (put P (small 1))
+    ∷ slot-call-at 10 (put P (small 1))
     ∷ advance-to 11 10 [] (write 2)
-    ∷ call-at 11 (look P)
+    ∷ slot-call-at 11 (look P)
     ∷ advance-to 12 11 [] (write 3)
-    ∷ call-at 12 (get P)
-    ∷ call-at 12 (read P)
+    ∷ slot-call-at 12 (get P)
+    ∷ slot-call-at 12 (read P)
     ∷ advance-to 13 12 [] []
     ∷ call-at 12 (answer (record { slot = P; outcome = some (small 3) } ∷ []))
     ∷ []
@@ -76,14 +79,14 @@ unfoldable pub late-write : ℕ → List Call
 late-write n =
     open-store 4 1 (IdleBlocks n)
     ∷ on-store (install (block 0))
-    ∷ call-at 0 (put P (small 1))
+    ∷ slot-call-at 0 (put P (small 1))
     ∷ advance-to 1 0 [] []
     ∷ advance-to 2 1 [] []
     ∷ advance-to 3 2 [] []
     ∷ advance-to 4 3 [] []
     ∷ advance-to 5 4 (A ∷ []) (write 2)
     ∷ advance-to 6 5 [] []
-    ∷ call-at 6 (look P)
+    ∷ slot-call-at 6 (look P)
     ∷ []
 
 -- A row of one run, and one of the first k calls of the whole case.
@@ -115,7 +118,7 @@ table =
     -- lineage 3
     ∷ run-row (after-install (at 5) (advance-to 6 5 [] [] ∷ [])) (delta (Cold ParentHashUnknown Decoded) [] 0 0 0 0 no-compaction)
     -- a sibling's child, one above with another parent hash, is cold 4 and carries nothing
-    ∷ run-row (after-install (block 5) (call-at 5 (put P (small 1)) ∷ advance-to 6 9 [] (write 9) ∷ []))
+    ∷ run-row (after-install (block 5) (slot-call-at 5 (put P (small 1)) ∷ advance-to 6 9 [] (write 9) ∷ []))
     (delta (Cold ParentHashMismatch Decoded) [] 0 1 0 0 no-compaction)
     -- idle 1 against 5: a longer idle allowance does not serve more
     ∷ record { runs = late-write 1 ∷ late-write 5 ∷ []; answers = ok (value (small 2)) ∷ ok no-value ∷ [] }

@@ -9,7 +9,7 @@ use lib.ListN.{length}
 use Rattle.model.specs.Slots.{Address, address-eqb, Value, LastUse, Hash, Slot, slot-eqb, slot-ltb, mem, Unknown, Known, hash-eqb, ReadAnchor, anchor-eqb, Retention, Unbounded, IdleBlocks}
 use Rattle.model.specs.Advance.{Lineage, Linked, NoParent, NotConsecutive, ParentHashUnknown, ParentHashMismatch, BalSkip, Decoded, NoAnchorHash, Rpc, Decode, CarryOutcome, AlreadyCurrent, Carried, Cold, Write, AppliedWrites, no-compaction}
 use Rattle.model.specs.Reads.{Member}
-use Rattle.model.specs.Store.{AnchoredCall, look, get, put, read, take, answer, answer-failed, StoreCall, install, advance, at-anchor, Call, open-store, on-store, Report, opened, anchor-same, anchor-fresh, advanced, value, no-value, stored, waiting, listed, answered}
+use Rattle.model.specs.Store.{SlotCall, look, get, put, read, AnchoredCall, on-slot, take, answer, answer-failed, Prepared, StoreCall, install, advance, at-anchor, Call, open-store, on-store, Report, opened, anchor-same, anchor-fresh, advanced, value, no-value, stored, waiting, listed, answered}
 use Rattle.model.specs.Refusals.{Answer, refuse, ok}
 
 -- Maps from slots -----------------------------------------------------------------------------------
@@ -245,15 +245,15 @@ ledger-report R a o z =
     advanced (record { outcome = o; writes = w; held = 0; live = entries-in-date R (a .number) (z .map); compaction = no-compaction })
 
 -- An advance to another anchor: the writes over what is left of the map. The awaiting slots are dropped.
-unfoldable pub ledger-advance : Retention → ReadAnchor → CarryOutcome → List Address → List Write → LedgerMap → LedgerPerformed
-ledger-advance R child o relevance ws m =
-    let z : Writing = write-all R (child .number) relevance ws (before-writes m) in
+unfoldable pub ledger-advance : Retention → ReadAnchor → CarryOutcome → Prepared → LedgerMap → LedgerPerformed
+ledger-advance R child o p m =
+    let z : Writing = write-all R (child .number) (p .relevance) (p .writes) (before-writes m) in
     ledger-performed (ledger-generation child (z .map) []) (ledger-report R child o z)
 
 -- The map is emptied unless linked and unskipped.
-abbrev pub ledger-carry-or-cold : Retention → LedgerMap → ReadAnchor → Lineage → ℕ → List Address → List Write → LedgerPerformed
-ledger-carry-or-cold R m child l k relevance ws =
-    cond (keeps-map l k) (ledger-advance R child (Carried 0) relevance ws m) (ledger-advance R child (Cold l (ledger-skip k)) relevance ws [])
+abbrev pub ledger-carry-or-cold : Retention → LedgerMap → ReadAnchor → Lineage → Prepared → LedgerPerformed
+ledger-carry-or-cold R m child l p =
+    cond (keeps-map l (p .skip)) (ledger-advance R child (Carried 0) p m) (ledger-advance R child (Cold l (ledger-skip (p .skip))) p [])
 
 -- A look, a get and a read, of what a look answers: get and read set the use if served; an unserved read waits.
 abbrev pub ledger-look : Option Value → Report
@@ -278,12 +278,15 @@ abbrev pub ledger-answer : LedgerGeneration → LedgerMap → List Slot → ℕ 
 ledger-answer g m ss errors =
     ledger-performed (ledger-generation (g .anchor) m (without ss (g .awaiting))) (answered (length ss) errors (waiters-among ss (g .awaiting)))
 
--- A call at the one anchor. A round that fails as a whole has no member errors.
+-- A call on a slot, and any call at the one anchor. A round that fails as a whole has no member errors.
+abbrev pub ledger-perform-slot : Retention → LedgerGeneration → SlotCall → LedgerPerformed
+ledger-perform-slot R g (look s) = ledger-performed g (ledger-look (ledger-resolved R g s))
+ledger-perform-slot R g (get s) = ledger-get g s (ledger-resolved R g s)
+ledger-perform-slot R g (put s v) = ledger-performed (ledger-use g s v) stored
+ledger-perform-slot R g (read s) = ledger-read g s (ledger-resolved R g s)
+
 abbrev pub ledger-perform-at : Retention → LedgerGeneration → AnchoredCall → LedgerPerformed
-ledger-perform-at R g (look s) = ledger-performed g (ledger-look (ledger-resolved R g s))
-ledger-perform-at R g (get s) = ledger-get g s (ledger-resolved R g s)
-ledger-perform-at R g (put s v) = ledger-performed (ledger-use g s v) stored
-ledger-perform-at R g (read s) = ledger-read g s (ledger-resolved R g s)
+ledger-perform-at R g (on-slot c) = ledger-perform-slot R g c
 ledger-perform-at R g take = ledger-performed (ledger-generation (g .anchor) (g .map) (all-marked (g .awaiting))) (listed (not-taken (g .awaiting)))
 ledger-perform-at R g (answer ms) = ledger-answer g (settle-values (g .anchor .number) ms (g .map)) (map (λ x. x .slot) ms) (member-errors ms)
 ledger-perform-at R g (answer-failed ss) = ledger-answer g (g .map) ss 0
@@ -292,14 +295,14 @@ ledger-perform-at R g (answer-failed ss) = ledger-answer g (g .map) ss 0
 abbrev pub ledger-perform-some : Retention → LedgerGeneration → StoreCall → LedgerPerformed
 ledger-perform-some R g (install a) =
     cond (anchor-eqb (g .anchor) a) (ledger-performed g anchor-same) (ledger-performed (ledger-generation a [] []) anchor-fresh)
-ledger-perform-some R g (advance child h k relevance ws) =
+ledger-perform-some R g (advance child h p) =
     cond (anchor-eqb (g .anchor) child) (ledger-performed g (ledger-report R (g .anchor) AlreadyCurrent (before-writes (g .map))))
-    (ledger-carry-or-cold R (g .map) child (ledger-link (some (g .anchor)) child h) k relevance ws)
+    (ledger-carry-or-cold R (g .map) child (ledger-link (some (g .anchor)) child h) p)
 ledger-perform-some R g (at-anchor a c) = ledger-perform-at R g c
 
 abbrev pub ledger-perform-none : Retention → StoreCall → LedgerPerformed
 ledger-perform-none R (install a) = ledger-performed (ledger-generation a [] []) anchor-fresh
-ledger-perform-none R (advance child h k relevance ws) = ledger-carry-or-cold R [] child (ledger-link none child h) k relevance ws
+ledger-perform-none R (advance child h p) = ledger-carry-or-cold R [] child (ledger-link none child h) p
 ledger-perform-none R (at-anchor a c) = record { installed = none; report = no-value }
 
 unfoldable pub ledger-perform : Retention → Option LedgerGeneration → StoreCall → LedgerPerformed

@@ -1,6 +1,7 @@
--- The definitions of the store: slots, layers, advances, reads, calls, refusals, the flat ledger, and demand 3.
+-- The definitions of the store: slots, contents, layers, advances, reads, calls, refusals, the flat ledger, and demand 3.
 pub mod Numbers
 pub mod Slots
+pub mod Contents
 pub mod Layers
 pub mod Advance
 pub mod Reads

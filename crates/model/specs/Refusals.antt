@@ -1,16 +1,16 @@
 -- Every refusal of a call in document 01's one order, one call, and lists of calls. Refusals 3, 4 and 5 are of call lists, 10 of final writes.
 use Prim.Native.Nat.{ℕ, _+_, _*_}
 use mathlib.Core.Bool.{Bool, true, false, not, _&&_, _||_, cond}
-use mathlib.Core.List.{List, [], _∷_, map}
+use mathlib.Core.List.{List, [], _∷_}
 use mathlib.Core.Option.{Option, some, none}
 use lib.Dec.{eqb, leb, ltb}
 use lib.ListN.{length}
 use Rattle.layout.specs.Layout.{record-width, records-index}
-use Rattle.model.specs.Slots.{Value, Slot, ReadAnchor, anchor-eqb, Retention}
-use Rattle.model.specs.Layers.{record-count, is-some}
-use Rattle.model.specs.Advance.{Write}
+use Rattle.model.specs.Slots.{Slot, ReadAnchor, anchor-eqb}
+use Rattle.model.specs.Contents.{is-some}
+use Rattle.model.specs.Layers.{record-count}
 use Rattle.model.specs.Reads.{is-awaiting, queued, all-taken, has-duplicate, member-slots}
-use Rattle.model.specs.Store.{Config, Generation, Store, AnchoredCall, look, get, put, read, take, answer, answer-failed, StoreCall, install, advance, at-anchor, Call, open-store, on-store, Report, resolved, chain, Memory, Accepted, accept, perform}
+use Rattle.model.specs.Store.{Config, Generation, look, get, put, read, AnchoredCall, on-slot, take, answer, answer-failed, Prepared, install, advance, at-anchor, Call, open-store, on-store, Report, resolved, chain, Memory, Accepted, accept}
 
 -- The sizes of what is lent to one call: the store's and the work area's bytes, and the entries that the output holds.
 -- An open asks for enough store bytes (9). For any other call they have been read before, as a store or as none (20): to it this number means nothing.
@@ -35,48 +35,42 @@ abbrev pub installed-in : Memory → Option Generation
 installed-in none = none
 installed-in (some st) = st .installed
 
--- What is asked of an open's capacity and depth, of an advance's skip and number of writes, of a call that names an anchor; of any other call it does not hold.
+-- What is asked of an open's capacity and depth, of what was prepared for an advance, of a call that names an anchor; of any other call it does not hold.
 abbrev pub if-open : Call → (ℕ → ℕ → Bool) → Bool
 if-open (open-store c d R) f = f c d
 if-open (on-store c) f = false
 
-abbrev pub if-advance : Call → (ℕ → ℕ → Bool) → Bool
+abbrev pub if-advance : Call → (Prepared → Bool) → Bool
 if-advance (open-store c d R) f = false
 if-advance (on-store (install a)) f = false
-if-advance (on-store (advance child h k relevance ws)) f = f k (length ws)
+if-advance (on-store (advance child h p)) f = f p
 if-advance (on-store (at-anchor a c)) f = false
 
 abbrev pub if-anchored : Call → (ReadAnchor → AnchoredCall → Bool) → Bool
 if-anchored (open-store c d R) f = false
 if-anchored (on-store (install a)) f = false
-if-anchored (on-store (advance child h k relevance ws)) f = false
+if-anchored (on-store (advance child h p)) f = false
 if-anchored (on-store (at-anchor a c)) f = f a c
 
 -- What is asked of a read's slot, and of a take.
 abbrev pub if-read : AnchoredCall → (Slot → Bool) → Bool
-if-read (look s) f = false
-if-read (get s) f = false
-if-read (put s v) f = false
-if-read (read s) f = f s
+if-read (on-slot (look s)) f = false
+if-read (on-slot (get s)) f = false
+if-read (on-slot (put s v)) f = false
+if-read (on-slot (read s)) f = f s
 if-read take f = false
 if-read (answer ms) f = false
 if-read (answer-failed ss) f = false
 
 abbrev pub is-take : AnchoredCall → Bool
-is-take (look s) = false
-is-take (get s) = false
-is-take (put s v) = false
-is-take (read s) = false
+is-take (on-slot c) = false
 is-take take = true
 is-take (answer ms) = false
 is-take (answer-failed ss) = false
 
 -- The slots that an answer names.
 abbrev pub answered-slots : AnchoredCall → List Slot
-answered-slots (look s) = []
-answered-slots (get s) = []
-answered-slots (put s v) = []
-answered-slots (read s) = []
+answered-slots (on-slot c) = []
 answered-slots take = []
 answered-slots (answer ms) = member-slots ms
 answered-slots (answer-failed ss) = ss
@@ -104,10 +98,10 @@ depth-out-of-range c = if-open c (λ capacity depth. ltb 255 depth)
 
 -- 6: any skip but 0, and writes. 7: skip number above 3.
 unfoldable pub skip-with-writes : Call → Bool
-skip-with-writes c = if-advance c (λ k writes. not (eqb k 0) && ltb 0 writes)
+skip-with-writes c = if-advance c (λ p. not (eqb (p .skip) 0) && ltb 0 (length (p .writes)))
 
 unfoldable pub skip-out-of-range : Call → Bool
-skip-out-of-range c = if-advance c (λ k writes. ltb 3 k)
+skip-out-of-range c = if-advance c (λ p. ltb 3 (p .skip))
 
 -- 8: an answer names a slot twice.
 unfoldable pub answer-names-twice : Call → Bool
@@ -117,7 +111,7 @@ answer-names-twice c = if-anchored c (λ a k. has-duplicate (answered-slots k))
 unfoldable pub lent-too-short : Memory → Lent → Call → Bool
 lent-too-short m l c =
     if-open c (λ capacity depth. ltb (l .store-bytes) (store-size capacity))
-    || if-advance c (λ k writes. if-store m (λ cfg. ltb (l .work-bytes) (work-size (cfg .capacity))) || ltb (l .output-entries) writes)
+    || if-advance c (λ p. if-store m (λ cfg. ltb (l .work-bytes) (work-size (cfg .capacity))) || ltb (l .output-entries) (length (p .writes)))
 
 -- 21: nothing is installed. 22: another anchor is installed than the call names.
 unfoldable pub nothing-installed : Memory → Call → Bool

@@ -1,8 +1,9 @@
 -- Slots, anchors and retention. The types are the code's own structs and enums.
-use Prim.Native.Nat.{ℕ, _-_}
+use Prim.Native.Nat.{ℕ, _-_, _^_}
 use mathlib.Core.Bool.{Bool, true, false, _&&_, _||_}
-use mathlib.Core.List.{List, [], _∷_, _++_}
+use mathlib.Core.List.{List, [], _∷_}
 use lib.Dec.{eqb, leb, ltb}
+use lib.ListN.{getD}
 pub use Rattle.model.specs.declared.storage_memo.Address.{Address}
 pub use Rattle.model.specs.declared.storage_memo.U256.{U256}
 pub use Rattle.model.specs.declared.storage_memo.BlockHash.{BlockHash}
@@ -31,6 +32,17 @@ u256-words x = x .w0 ∷ x .w1 ∷ x .w2 ∷ x .w3 ∷ []
 
 abbrev pub slot-words : Slot → List ℕ
 slot-words s = s .address .w0 ∷ s .address .w1 ∷ s .address .w2 ∷ u256-words (s .index)
+
+-- The 32-byte number of four words.
+abbrev pub read-u256 : List ℕ → U256
+read-u256 l = record { w0 = getD l 0 0; w1 = getD l 1 0; w2 = getD l 2 0; w3 = getD l 3 0 }
+
+-- Whether a number fits a word, and whether each word of a 32-byte number does.
+abbrev pub fits-64 : ℕ → Bool
+fits-64 n = ltb n (2 ^ 64)
+
+abbrev pub u256-fits : U256 → Bool
+u256-fits x = fits-64 (x .w0) && (fits-64 (x .w1) && (fits-64 (x .w2) && fits-64 (x .w3)))
 
 -- Whether two lists of words are equal.
 unfoldable pub words-eqb : List ℕ → List ℕ → Bool

@@ -1,12 +1,13 @@
 -- The store, its calls, and what an accepted call does.
 use Prim.Native.Nat.{ℕ, suc, max}
-use mathlib.Core.Bool.{Bool, true, false, cond}
+use mathlib.Core.Bool.{cond}
 use mathlib.Core.List.{List, [], _∷_}
 use mathlib.Core.Option.{Option, some, none}
 use lib.ListN.{length}
 use Rattle.model.specs.Slots.{Address, Value, Hash, Slot, ReadAnchor, anchor-eqb, Retention}
-use Rattle.model.specs.Layers.{Content, Layer, find, insert, held-value, freshest-use, resolved-through-policy, touch, settle, held-count, live-count}
-use Rattle.model.specs.Advance.{Lineage, BalSkip, skip-of, CarryOutcome, AlreadyCurrent, Carried, Cold, classify-link, carries, void-base, no-compaction, Compaction, CompactionReport, compact-base, seal, Write, no-writes, SeededTop, seed-final-writes, DeltaReport}
+use Rattle.model.specs.Contents.{touch}
+use Rattle.model.specs.Layers.{Layer, find, insert, held-value, freshest-use, resolved-through-policy, settle, held-count, live-count}
+use Rattle.model.specs.Advance.{Lineage, skip-of, CarryOutcome, AlreadyCurrent, Carried, Cold, classify-link, carries, void-base, no-compaction, Compaction, CompactionReport, compact-base, seal, Write, no-writes, SeededTop, seed-final-writes, DeltaReport}
 use Rattle.model.specs.Reads.{Pending, Member, ReadTotals, waiters-of, is-awaiting, join, queued, take-queued, remove-all-pending, woken, member-slots, valued-slots, refused-slots, settle-members, no-reads, count-served, count-waiting, count-answer}
 
 -- What an open sets: capacity in records, depth limit, retention.
@@ -28,20 +29,30 @@ pub record Store : Type 0 where
   pub config : Config
   pub installed : Option Generation
 
+-- The calls on one slot, call codes 4 to 7.
+pub data SlotCall : Type 0 where
+  look : Slot → SlotCall
+  get : Slot → SlotCall
+  put : Slot → Value → SlotCall
+  read : Slot → SlotCall
+
 -- The calls that name an anchor, call codes 4 to 9. `answer-failed` is the answer of a round that failed as a whole.
 pub data AnchoredCall : Type 0 where
-  look : Slot → AnchoredCall
-  get : Slot → AnchoredCall
-  put : Slot → Value → AnchoredCall
-  read : Slot → AnchoredCall
+  on-slot : SlotCall → AnchoredCall
   take : AnchoredCall
   answer : List Member → AnchoredCall
   answer-failed : List Slot → AnchoredCall
 
--- The calls of demand 3. `advance` has child, parent hash, skip, relevant addresses and writes.
+-- What was prepared for an advance: skip, relevant addresses and writes.
+pub record Prepared : Type 0 where
+  pub skip : ℕ
+  pub relevance : List Address
+  pub writes : List Write
+
+-- The calls of demand 3. `advance` has child, parent hash and what was prepared.
 pub data StoreCall : Type 0 where
   install : ReadAnchor → StoreCall
-  advance : ReadAnchor → Hash → ℕ → List Address → List Write → StoreCall
+  advance : ReadAnchor → Hash → Prepared → StoreCall
   at-anchor : ReadAnchor → AnchoredCall → StoreCall
 
 -- Every call: an open with capacity, depth limit and retention, or a call of demand 3.
@@ -116,16 +127,17 @@ after-writes cfg child b outcome c z =
     (advanced (record { outcome = outcome; writes = z .applied-writes; held = held; live = live; compaction = c }))
 
 -- A carry: the parent's base folded at the parent's number if due, its top sealed, then the writes.
-unfoldable pub carry : Config → Generation → ReadAnchor → List Address → List Write → Performed
-carry cfg p child relevance ws =
-    let f : Compaction = compact-base (cfg .retention) (cfg .max-depth) (p .anchor .number) (p .base) in
-    let b : List Layer = seal (p .top) (f .base) in
-    after-writes cfg child b (Carried (held-count b)) (f .report) (seed-final-writes (cfg .retention) (child .number) relevance b ws [])
+unfoldable pub carry : Config → Generation → ReadAnchor → Prepared → Performed
+carry cfg g child p =
+    let f : Compaction = compact-base (cfg .retention) (cfg .max-depth) (g .anchor .number) (g .base) in
+    let b : List Layer = seal (g .top) (f .base) in
+    after-writes cfg child b (Carried (held-count b)) (f .report) (seed-final-writes (cfg .retention) (child .number) (p .relevance) b (p .writes) [])
 
 -- A cold advance: the base is empty before the writes.
-unfoldable pub cold-advance : Config → ReadAnchor → Lineage → BalSkip → List Address → List Write → Performed
-cold-advance cfg child l k relevance ws =
-    after-writes cfg child void-base (Cold l k) no-compaction (seed-final-writes (cfg .retention) (child .number) relevance void-base ws [])
+unfoldable pub cold-advance : Config → ReadAnchor → Lineage → Prepared → Performed
+cold-advance cfg child l p =
+    after-writes cfg child void-base (Cold l (skip-of (p .skip))) no-compaction
+    (seed-final-writes (cfg .retention) (child .number) (p .relevance) void-base (p .writes) [])
 
 -- The report of an advance to the installed anchor.
 abbrev pub already-current : Config → Generation → Report
@@ -134,8 +146,8 @@ already-current cfg g =
     advanced (record { outcome = AlreadyCurrent; writes = no-writes; held = held-count (chain g); live = live; compaction = no-compaction })
 
 -- Carried if linked and not skipped, else cold with both.
-abbrev pub carry-or-cold : Config → Generation → ReadAnchor → Lineage → BalSkip → List Address → List Write → Performed
-carry-or-cold cfg p child l k relevance ws = cond (carries l k) (carry cfg p child relevance ws) (cold-advance cfg child l k relevance ws)
+abbrev pub carry-or-cold : Config → Generation → ReadAnchor → Lineage → Prepared → Performed
+carry-or-cold cfg g child l p = cond (carries l (skip-of (p .skip))) (carry cfg g child p) (cold-advance cfg child l p)
 
 -- get, read, answer ------------------------------------------------------------------------------------
 
@@ -168,12 +180,15 @@ perform-answer g t ss vs rs e =
 
 -- The calls --------------------------------------------------------------------------------------------
 
--- A call at the installed anchor.
+-- A call on a slot, and any call at the installed anchor.
+abbrev pub perform-slot : Config → Generation → SlotCall → Performed
+perform-slot cfg g (look s) = performed g (value-report (resolved (cfg .retention) g s))
+perform-slot cfg g (get s) = perform-get g s (resolved (cfg .retention) g s)
+perform-slot cfg g (put s v) = performed (with-top g (settle (g .anchor .number) s v (g .top))) stored
+perform-slot cfg g (read s) = perform-read g s (resolved (cfg .retention) g s)
+
 abbrev pub perform-at : Config → Generation → AnchoredCall → Performed
-perform-at cfg g (look s) = performed g (value-report (resolved (cfg .retention) g s))
-perform-at cfg g (get s) = perform-get g s (resolved (cfg .retention) g s)
-perform-at cfg g (put s v) = performed (with-top g (settle (g .anchor .number) s v (g .top))) stored
-perform-at cfg g (read s) = perform-read g s (resolved (cfg .retention) g s)
+perform-at cfg g (on-slot c) = perform-slot cfg g c
 perform-at cfg g take = performed (with-reads g (g .top) (take-queued (g .pending)) (g .totals)) (listed (queued (g .pending)))
 perform-at cfg g (answer ms) =
     perform-answer g (settle-members (g .anchor .number) ms (g .top)) (member-slots ms) (valued-slots ms) (refused-slots ms)
@@ -183,14 +198,14 @@ perform-at cfg g (answer-failed ss) = perform-answer g (g .top) ss [] ss 0
 -- With a generation installed, and with none: then nothing but an install or an advance is accepted, and the case of another call is a filler, refused by 21.
 abbrev pub perform-some : Config → Generation → StoreCall → Performed
 perform-some cfg g (install a) = cond (anchor-eqb (g .anchor) a) (performed g anchor-same) (fresh a)
-perform-some cfg g (advance child parent-hash k relevance ws) =
+perform-some cfg g (advance child parent-hash p) =
     cond (anchor-eqb (g .anchor) child) (performed g (already-current cfg g))
-    (carry-or-cold cfg g child (classify-link (some (g .anchor)) child parent-hash) (skip-of k) relevance ws)
+    (carry-or-cold cfg g child (classify-link (some (g .anchor)) child parent-hash) p)
 perform-some cfg g (at-anchor a c) = perform-at cfg g c
 
 abbrev pub perform-none : Config → StoreCall → Performed
 perform-none cfg (install a) = fresh a
-perform-none cfg (advance child parent-hash k relevance ws) = cold-advance cfg child (classify-link none child parent-hash) (skip-of k) relevance ws
+perform-none cfg (advance child parent-hash p) = cold-advance cfg child (classify-link none child parent-hash) p
 perform-none cfg (at-anchor a c) = record { installed = none; report = no-value }
 
 -- What a call of demand 3 does if it is accepted.

@@ -5,10 +5,10 @@ use mathlib.Core.Bool.{Bool, true, false, cond}
 use mathlib.Core.List.{List, [], _∷_}
 use mathlib.Core.Option.{Option, some, none}
 use Rattle.model.specs.Slots.{Value, Hash, Slot, slot-eqb, mem, ReadAnchor, identified}
-use Rattle.model.specs.Layers.{or-else}
+use Rattle.model.specs.Contents.{or-else}
 use Rattle.model.specs.Advance.{Write}
 use Rattle.model.specs.Reads.{Member}
-use Rattle.model.specs.Store.{AnchoredCall, look, get, put, read, take, answer, answer-failed, StoreCall, install, advance, at-anchor, Call, open-store, on-store, Generation, Memory, resolved, served-value}
+use Rattle.model.specs.Store.{look, get, put, read, AnchoredCall, on-slot, take, answer, answer-failed, StoreCall, install, advance, at-anchor, Call, open-store, on-store, Generation, Memory, served-value}
 use Rattle.model.specs.Refusals.{installed-in}
 
 -- The one true value of each anchor and slot.
@@ -44,17 +44,17 @@ true-outcomes truth a (x ∷ xs) = true-outcome truth a (x .slot) (x .outcome) �
 
 -- What is asked of an accepted call: a put's value, an answer's values and an unskipped list of writes are true.
 abbrev pub true-at : Truth → ReadAnchor → AnchoredCall → Type 0
-true-at truth a (look s) = Unit {0}
-true-at truth a (get s) = Unit {0}
-true-at truth a (put s v) = v ≡ truth a s
-true-at truth a (read s) = Unit {0}
+true-at truth a (on-slot (look s)) = Unit {0}
+true-at truth a (on-slot (get s)) = Unit {0}
+true-at truth a (on-slot (put s v)) = v ≡ truth a s
+true-at truth a (on-slot (read s)) = Unit {0}
 true-at truth a take = Unit {0}
 true-at truth a (answer ms) = true-outcomes truth a ms
 true-at truth a (answer-failed ss) = Unit {0}
 
 abbrev pub true-store-call : Truth → StoreCall → Type 0
 true-store-call truth (install a) = Unit {0}
-true-store-call truth (advance child parent-hash k relevance ws) = k ≡ 0 → TrueWrites truth child parent-hash ws
+true-store-call truth (advance child parent-hash p) = p .skip ≡ 0 → TrueWrites truth child parent-hash (p .writes)
 true-store-call truth (at-anchor a c) = true-at truth a c
 
 abbrev pub true-call : Truth → Call → Type 0

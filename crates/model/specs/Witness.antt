@@ -7,7 +7,7 @@ use mathlib.Core.List.{List, [], _∷_, map}
 use mathlib.Core.Option.{some, none}
 use Rattle.model.specs.Slots.{Address, Hash, U256, Slot, slot-eqb, hash-eqb, Known, ReadAnchor, identified, IdleBlocks}
 use Rattle.model.specs.Advance.{Write, AppliedWrites, CarryOutcome, Carried, Cold, Linked, NoParent, ParentHashMismatch, Decoded, Rpc, CompactionReport, no-compaction}
-use Rattle.model.specs.Store.{AnchoredCall, get, put, read, take, answer, install, advance, at-anchor, Call, open-store, on-store, opened, anchor-fresh, advanced, value, stored, waiting, listed, answered}
+use Rattle.model.specs.Store.{get, put, read, AnchoredCall, on-slot, take, answer, install, advance, at-anchor, Call, open-store, on-store, opened, anchor-fresh, advanced, value, stored, waiting, listed, answered}
 use Rattle.model.specs.Refusals.{store-size, work-size, LentCall, Answer, refuse, ok, trace, final}
 use Rattle.model.specs.TrueInputs.{Truth, TrueInputs, serves-value}
 use Rattle.model.specs.Demand3.{calls-of, refusal-flags}
@@ -60,9 +60,12 @@ fork-writes = record { slot = W; value = word 12 } ∷ record { slot = P; value 
 abbrev pub lent-call : Call → LentCall
 lent-call c = record { call = c; lent = record { store-bytes = store-size 16; work-bytes = work-size 16; output-entries = 2 } }
 
--- An advance to a canonical block, under a parent hash, and a call at a canonical block.
+-- An advance to an anchor, under a parent hash, with a skip and writes; one to a canonical block; and a call at a canonical block.
+abbrev pub advance-to : ReadAnchor → ℕ → ℕ → List Write → Call
+advance-to child parent k ws = on-store (advance child (word parent) (record { skip = k; relevance = contract ∷ []; writes = ws }))
+
 abbrev pub next : ℕ → ℕ → Call
-next n parent = on-store (advance (block n) (word parent) 0 (contract ∷ []) (block-writes n))
+next n parent = advance-to (block n) parent 0 (block-writes n)
 
 abbrev pub at-block : ℕ → AnchoredCall → Call
 at-block n c = on-store (at-anchor (block n) c)
@@ -77,23 +80,23 @@ abbrev pub run : List LentCall
 run =
     map lent-call (
     open-store 16 1 (IdleBlocks 1)
-    ∷ on-store (advance (block 0) (word 0) 0 (contract ∷ []) [])
+    ∷ advance-to (block 0) 0 0 []
     ∷ next 1 0
-    ∷ on-store (advance (block 2) (word 1) 2 (contract ∷ []) [])
+    ∷ advance-to (block 2) 1 2 []
     ∷ on-store (install (block 10))
-    ∷ at-block 10 (put P (word 5))
+    ∷ at-block 10 (on-slot (put P (word 5)))
     ∷ next 11 10
-    ∷ on-store (advance fork (word 111) 0 (contract ∷ []) fork-writes)
+    ∷ advance-to fork 111 0 fork-writes
     ∷ next 13 12
-    ∷ at-block 13 (put P (word 5))
-    ∷ at-block 13 (read Q)
+    ∷ at-block 13 (on-slot (put P (word 5)))
+    ∷ at-block 13 (on-slot (read Q))
     ∷ at-block 13 (answer-Q 9)
     ∷ at-block 13 take
     ∷ at-block 13 (answer-Q 0)
     ∷ next 14 13
-    ∷ at-block 14 (get P)
+    ∷ at-block 14 (on-slot (get P))
     ∷ next 15 14
-    ∷ at-block 15 (get P)
+    ∷ at-block 15 (on-slot (get P))
     ∷ next 16 15
     ∷ [])
 

@@ -14,7 +14,7 @@ pub enum Lineage {
 pub enum CarryOutcome {
     AlreadyCurrent,
     Carried(u64),
-    Cold(Lineage, BalSkip),
+    Cold { lineage: Lineage, bal: BalSkip },
 }
 
 // The running totals of a generation's reads.

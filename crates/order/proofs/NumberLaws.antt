@@ -10,8 +10,8 @@ use lib.ListN.{length}
 use borrow.Author.Tests.{ltb-true, ltb-false, eqb-true, eqb-false, lt-ltb, le-ltb, le-leb, lt-leb, eq-eqb, ne-eqb}
 use Rattle.model.specs.declared.delta_snapshot.Slot.{Slot}
 use Rattle.model.specs.Slots.{slot-words, words-eqb, words-ltb, slot-eqb, slot-ltb}
-use Rattle.model.proofs.SlotLaws.{split}
-use Rattle.image.proofs.Words.{Fit, fit-nil, fit-cons}
+use Rattle.model.proofs.SlotLaws.{split, words-eqb-true, words-ltb-total}
+use Rattle.model.proofs.WordLaws.{Fit, fit-nil, fit-cons}
 use Rattle.order.specs.Index.{words-number, slot-number}
 
 -- A word more, above a number below p.
@@ -40,9 +40,6 @@ head-less x y p a b h k =
 ltb-shift : (c a b : ℕ) → ltb (c + a) (c + b) ≡ ltb a b
 ltb-shift c a b = split (ltb a b) (λ e. lt-ltb (c + a) (c + b) (omega (arith, ltb-true a b e)) ∙ sym e) (λ e. le-ltb (c + a) (c + b) (omega (arith, ltb-false a b e)) ∙ sym e)
 
-eqb-shift : (c a b : ℕ) → eqb (c + a) (c + b) ≡ eqb a b
-eqb-shift c a b = split (eqb a b) (λ e. eq-eqb (c + a) (c + b) (omega (arith, eqb-true a b e)) ∙ sym e) (λ e. ne-eqb (c + a) (c + b) (λ d. eqb-false a b e (omega arith)) ∙ sym e)
-
 pub words-ltb-number : (xs ys : List ℕ) → length xs ≡ length ys → Fit xs → Fit ys → words-ltb xs ys ≡ ltb (words-number xs) (words-number ys)
 unfolding words-ltb words-number
 words-ltb-number [] [] k p q = refl
@@ -65,29 +62,16 @@ words-ltb-number (x ∷ xs) (y ∷ ys) k (fit-cons h p) (fit-cons g q) =
     let w : y * P + words-number ys < x * P + words-number xs = head-less y x P (words-number ys) (words-number xs) b v in
     rw (d, f) (sym (le-ltb (x * P + words-number xs) (y * P + words-number ys) (omega arith))))))
 
+-- Of two lists of words that differ one comes before the other, so their numbers differ.
 pub words-eqb-number : (xs ys : List ℕ) → length xs ≡ length ys → Fit xs → Fit ys → words-eqb xs ys ≡ eqb (words-number xs) (words-number ys)
-unfolding words-eqb words-number
-words-eqb-number [] [] k p q = refl
-words-eqb-number [] (y ∷ ys) k p q = absurd (omega arith)
-words-eqb-number (x ∷ xs) [] k p q = absurd (omega arith)
-words-eqb-number (x ∷ xs) (y ∷ ys) k (fit-cons h p) (fit-cons g q) =
-    let l : length xs ≡ length ys = omega arith in
-    let P : ℕ = (2 ^ 64) ^ length ys in
-    let e : (2 ^ 64) ^ length xs ≡ P = ap (λ (n : ℕ). (2 ^ 64) ^ n) l in
-    let a : words-number xs < P = rw l at (number-below p) in
-    let b : words-number ys < P = number-below q in
-    let ih : words-eqb xs ys ≡ eqb (words-number xs) (words-number ys) = words-eqb-number xs ys l p q in
-    rw e
-    (split (ltb x y)
-    (λ d. let v : x < y = ltb-true x y d in
-    let w : x * P + words-number xs < y * P + words-number ys = head-less x y P (words-number xs) (words-number ys) a v in
-    rw (ne-eqb x y (λ f. omega arith)) (sym (ne-eqb (x * P + words-number xs) (y * P + words-number ys) (λ f. omega arith))))
-    (λ d. split (eqb x y)
-    (λ f. rw (f, ih, eqb-true x y f) (sym (eqb-shift (y * P) (words-number xs) (words-number ys))))
-    (λ f. let u : y ≤ x = ltb-false x y d in
-    let v : y < x = omega (arith, eqb-false x y f) in
-    let w : y * P + words-number ys < x * P + words-number xs = head-less y x P (words-number ys) (words-number xs) b v in
-    rw f (sym (ne-eqb (x * P + words-number xs) (y * P + words-number ys) (λ g. omega arith))))))
+words-eqb-number xs ys k p q =
+    let a : ℕ = words-number xs in
+    let b : ℕ = words-number ys in
+    split (words-eqb xs ys)
+    (λ e. e ∙ sym (eq-eqb a b (ap words-number (words-eqb-true xs ys e))))
+    (λ e. split (words-ltb ys xs)
+    (λ d. let l : b < a = ltb-true b a (sym (words-ltb-number ys xs (sym k) q p) ∙ d) in e ∙ sym (ne-eqb a b (λ f. omega arith)))
+    (λ d. let l : a < b = ltb-true a b (sym (words-ltb-number xs ys k p q) ∙ words-ltb-total xs ys k e d) in e ∙ sym (ne-eqb a b (λ f. omega arith))))
 
 -- Slots are compared as their numbers are.
 pub slot-ltb-number : (s t : Slot) → Fit (slot-words s) → Fit (slot-words t) → slot-ltb s t ≡ ltb (slot-number s) (slot-number t)

@@ -11,8 +11,7 @@ use Rattle.model.proofs.SlotLaws.{and-intro}
 use Rattle.image.specs.Claims.{call-fits}
 use Rattle.image.specs.Image.{bytes-step}
 use Rattle.image.proofs.EntriesFit.{writes-of-fit, members-of-fit}
-use Rattle.unchecked_calls.specs.Answers.{Stepped}
-use Rattle.unchecked_reads.specs.Answers.{answer-step}
+use Rattle.replies.specs.Replies.{answer-step, Stepped}
 use Rattle.public_calls.specs.PublicCalls.{PublicCall, open-store, install, look, get, put, advance, read, take, answer, answer-failed, bytes-call, Stepped-as, Made}
 
 pub data Effect (c : PublicCall) (before after : List ℕ) (x : Answer) : Type 0 where

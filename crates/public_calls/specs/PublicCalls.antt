@@ -10,13 +10,12 @@ use Rattle.model.specs.declared.delta_snapshot.Retention.{Retention}
 use Rattle.model.specs.Numbers.{Bytes}
 use Rattle.model.specs.Entries.{slots-of, members-of}
 use Rattle.model.specs.Store as model
-use Rattle.model.specs.Store.{Call, on-store, at-anchor}
+use Rattle.model.specs.Store.{Call, on-store, at-anchor, on-slot}
 use Rattle.model.specs.Refusals.{Answer}
-use Rattle.image.specs.WellFormed.{u256-fits, slot-fits, anchor-fits, retention-fits}
+use Rattle.model.specs.Slots.{u256-fits}
+use Rattle.image.specs.WellFormed.{slot-fits, anchor-fits, retention-fits}
 use Rattle.image.specs.Image.{BytesCall, bytes-step}
-use Rattle.unchecked_calls.specs.Answers.{alone, Stepped}
-use Rattle.unchecked_reads.specs.Answers.{answer-step, with-output}
-use Rattle.unchecked_advance.specs.Reports.{advance-call}
+use Rattle.replies.specs.Replies.{alone, with-output, advance-call, answer-step, Stepped}
 
 -- A call of each public function with its arguments, the store's bytes apart: numbers, structs, and as lists of bytes what is lent to it.
 pub data PublicCall : Type 0 where
@@ -40,11 +39,11 @@ pub data PublicCall : Type 0 where
 abbrev pub bytes-call : PublicCall → BytesCall
 bytes-call (open-store capacity depth R) = alone (model.open-store capacity depth R)
 bytes-call (install a) = alone (on-store (model.install a))
-bytes-call (look a s) = alone (on-store (at-anchor a (model.look s)))
-bytes-call (get a s) = alone (on-store (at-anchor a (model.get s)))
-bytes-call (put a s v) = alone (on-store (at-anchor a (model.put s v)))
+bytes-call (look a s) = alone (on-store (at-anchor a (on-slot (model.look s))))
+bytes-call (get a s) = alone (on-store (at-anchor a (on-slot (model.get s))))
+bytes-call (put a s v) = alone (on-store (at-anchor a (on-slot (model.put s v))))
 bytes-call (advance child h k addresses writes work out) = advance-call child h k addresses writes work out
-bytes-call (read a s) = alone (on-store (at-anchor a (model.read s)))
+bytes-call (read a s) = alone (on-store (at-anchor a (on-slot (model.read s))))
 bytes-call (take a out) = with-output (on-store (at-anchor a model.take)) out
 bytes-call (answer a members) = alone (on-store (at-anchor a (model.answer (members-of members))))
 bytes-call (answer-failed a slots) = alone (on-store (at-anchor a (model.answer-failed (slots-of slots))))

@@ -11,7 +11,7 @@ use Rattle.model.specs.declared.delta_snapshot.Retention.the-variants.{Unbounde
 use Rattle.model.specs.Slots.{at}
 use Rattle.model.specs.Advance.{void-base}
 use Rattle.model.specs.Reads.{Pending}
-use Rattle.model.specs.Store.{AnchoredCall, read, take, advance, at-anchor, Call, on-store, Memory, listed}
+use Rattle.model.specs.Store.{read, AnchoredCall, on-slot, take, advance, at-anchor, Call, on-store, Memory, listed}
 use Rattle.model.specs.Refusals.{Lent, Condition, work-size, conditions, refusal, refuse, ok}
 use Rattle.image.specs.Output.{output-after}
 use Rattle.call_list.specs.Meaning.{default-limits}
@@ -51,7 +51,7 @@ abbrev pub here : AnchoredCall → Call
 here c = on-store (at-anchor (at 5) c)
 
 abbrev pub advance-6 : Call
-advance-6 = on-store (advance (at 6) (small 0) 0 [] (record { slot = numbered 0; value = small 1 } ∷ []))
+advance-6 = on-store (advance (at 6) (small 0) (record { skip = 0; relevance = []; writes = record { slot = numbered 0; value = small 1 } ∷ [] }))
 
 -- What is lent: a work area, and an output of so many entries.
 abbrev pub lent : ℕ → ℕ → Lent
@@ -59,8 +59,8 @@ lent work entries = record { store-bytes = 0; work-bytes = work; output-entries 
 
 -- 25, 27 and an advance's 9 at their limits and one past them; document 01's order of the refusals, and 25 before 24 where both hold.
 pub record RefusedAtLimits : Type 0 where
-  pub last-read : refusal (reading 0 4294967294) (lent 0 0) (here (read (numbered 0))) ≡ none
-  pub read-past-it : refusal (reading 0 4294967295) (lent 0 0) (here (read (numbered 0))) ≡ some 25
+  pub last-read : refusal (reading 0 4294967294) (lent 0 0) (here (on-slot (read (numbered 0)))) ≡ none
+  pub read-past-it : refusal (reading 0 4294967295) (lent 0 0) (here (on-slot (read (numbered 0)))) ≡ some 25
   pub queue-fits : refusal (reading 3 3) (lent 0 3) (here take) ≡ none
   pub queue-past-it : refusal (reading 3 3) (lent 0 2) (here take) ≡ some 27
   pub areas-fit : refusal (reading 0 0) (lent (work-size 4) 1) advance-6 ≡ none
@@ -68,8 +68,8 @@ pub record RefusedAtLimits : Type 0 where
   pub output-short : refusal (reading 0 0) (lent (work-size 4) 0) advance-6 ≡ some 9
   pub order : (m : Memory) (l : Lent) (c : Call) →
       map (λ k. k .number) (conditions m l c) ≡ 20 ∷ 1 ∷ 2 ∷ 6 ∷ 7 ∷ 8 ∷ 9 ∷ 21 ∷ 22 ∷ 26 ∷ 25 ∷ 24 ∷ 23 ∷ 27 ∷ []
-  pub only-24 : refusal (reading 64 64) (lent 0 0) (here (read (numbered 64))) ≡ some 24
-  pub both-25 : refusal (reading 64 4294967295) (lent 0 0) (here (read (numbered 64))) ≡ some 25
+  pub only-24 : refusal (reading 64 64) (lent 0 0) (here (on-slot (read (numbered 64)))) ≡ some 24
+  pub both-25 : refusal (reading 64 4294967295) (lent 0 0) (here (on-slot (read (numbered 64)))) ≡ some 25
 
 -- A take puts its slots to the output's beginning; a refused call keeps every byte.
 pub record OutputAfter : Type 0 where

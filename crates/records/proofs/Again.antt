@@ -4,20 +4,24 @@ use mathlib.Core.Path.{_≡_, sym, ap, _∙_}
 use mathlib.Core.List.{List, [], _∷_, _++_, map, append-nil}
 use native.Mathlib.Numerals.{add-one}
 use native.Mathlib.Omega.{arith}
-use lib.Dec.{eqb, lit<}
+use lib.Dec.{lit<}
 use lib.ListN.{length, take, drop, getD, length-append, length-drop}
 use lib.Seq.{take-suc, drop-at, drop-drop, getD-drop}
 use Rattle.layout.specs.Layout.{record-size, record-width, slot-width}
 use Rattle.model.specs.declared.delta_snapshot.Slot.{Slot}
 use Rattle.model.specs.Numbers.{num, num-from, Bytes}
-use Rattle.model.specs.Slots.{u256-words, slot-eqb, slot-ltb}
-use Rattle.model.specs.Layers.{Content, Layer, insert}
+use Rattle.model.specs.Slots.{u256-words, slot-eqb, slot-ltb, read-u256}
+use Rattle.model.specs.declared.delta_snapshot.Content.{Content}
+use Rattle.model.specs.Contents.{read-content}
+use Rattle.model.specs.Layers.{Layer, insert}
 use Rattle.model.proofs.NumberLaws.{num-from-snoc}
 use Rattle.model.proofs.SlotLaws.{split}
 use Rattle.words.proofs.Numbers.{more-fits}
-use Rattle.image.specs.Image.{bytes-of, words-of, record-words, all-record-words, content-words, read-u256, read-content, read-record, entries}
+use Rattle.image.specs.Image.{bytes-of, words-of, record-words, all-record-words, read-record, entries}
 use Rattle.image.specs.Area.{records-of, with-records}
-use Rattle.image.proofs.Words.{Fit, fit-nil, fit-cons, fit-append, length-bytes-of, words-of-bytes}
+use Rattle.model.proofs.WordLaws.{Fit, fit-nil, fit-cons, fit-append, fit-left}
+use Rattle.model.proofs.ContentLaws.{content-fits-read, fit-content}
+use Rattle.image.proofs.Words.{length-bytes-of, words-of-bytes}
 use Rattle.image.proofs.Entries.{length-records, read-records}
 use Rattle.records.proofs.RecordsAt.{records-none, records-more}
 
@@ -47,17 +51,10 @@ fit-get (fit-cons h p) (suc i) = fit-get p i
 fit-value : (ws : List ℕ) → ((i : ℕ) → getD ws i 0 < 2 ^ 64) → Fit (u256-words (read-u256 ws))
 fit-value ws g = fit-cons (g 0) (fit-cons (g 1) (fit-cons (g 2) (fit-cons (g 3) fit-nil)))
 
-fit-content : (ws : List ℕ) → ((i : ℕ) → getD ws i 0 < 2 ^ 64) → Fit (content-words (read-content ws))
-fit-content ws g =
-    let z : _<_ 0 (2 ^ 64) = lit< tt in
-    split (eqb (getD ws 1 0) 0)
-    (λ e. rw e (fit-cons (g 0) (fit-cons z (fit-cons z (fit-cons z (fit-cons z (fit-cons z (fit-cons z fit-nil))))))))
-    (λ e. rw e (fit-cons (g 0) (fit-cons (lit< tt) (fit-append (fit-value (drop 2 ws) (λ i. rw getD-drop (g (2 + i)))) (fit-cons z fit-nil)))))
-
 fit-record : (ws : List ℕ) → ((i : ℕ) → getD ws i 0 < 2 ^ 64) → Fit (record-words (read-record ws))
 fit-record ws g =
     fit-append (fit-cons (g 0) (fit-cons (g 1) (fit-cons (g 2) (fit-value (drop 3 ws) (λ i. rw getD-drop (g (3 + i)))))))
-    (fit-content (drop slot-width ws) (λ i. rw getD-drop (g (slot-width + i))))
+    (fit-content (read-content (drop slot-width ws)) (content-fits-read (drop slot-width ws) (λ i. rw getD-drop (g (slot-width + i)))))
 
 -- The words of records that were read.
 pub fit-read : (n : ℕ) (s : List ℕ) → Bytes s → n * record-size ≤ length s → Fit (all-record-words (records-of n s))
@@ -66,10 +63,6 @@ fit-read zero s f h = rw records-none fit-nil
 fit-read (suc n) s f h =
     let k : n * record-size ≤ length (drop record-size s) = rw length-drop (omega arith) in
     rw records-more (fit-append (fit-record (words-of record-width s) (fit-get (fit-words record-width s f (omega arith)))) (fit-read n (drop record-size s) (λ j. rw getD-drop (f (record-size + j))) k))
-
-fit-first : (xs ys : List ℕ) → Fit (xs ++ ys) → Fit xs
-fit-first [] ys p = fit-nil
-fit-first (x ∷ xs) ys (fit-cons h p) = fit-cons h (fit-first xs ys p)
 
 fit-rest : (xs ys : List ℕ) → Fit (xs ++ ys) → Fit ys
 fit-rest [] ys p = p
@@ -82,7 +75,7 @@ fit-insert t c [] f g = fit-append f fit-nil
 fit-insert t c (r ∷ l) f g =
     split (slot-eqb (r .slot) t)
     (λ p. rw p (fit-append f (fit-rest (record-words r) (all-record-words l) g)))
-    (λ p. split (slot-ltb t (r .slot)) (λ q. rw (p, q) (fit-append f g)) (λ q. rw (p, q) (fit-append (fit-first (record-words r) (all-record-words l) g) (fit-insert t c l f (fit-rest (record-words r) (all-record-words l) g)))))
+    (λ p. split (slot-ltb t (r .slot)) (λ q. rw (p, q) (fit-append f g)) (λ q. rw (p, q) (fit-append (fit-left (record-words r) (all-record-words l) g) (fit-insert t c l f (fit-rest (record-words r) (all-record-words l) g)))))
 
 -- Bytes with records read back ------------------------------------------------------------------------
 

@@ -9,7 +9,8 @@ use native.Mathlib.Omega.{arith}
 use lib.ListN.{length, take, drop}
 use Rattle.model.specs.declared.delta_snapshot.Slot.{Slot}
 use Rattle.model.specs.Slots.{slot-eqb, slot-ltb}
-use Rattle.model.specs.Layers.{Content, Record, Layer, find, insert}
+use Rattle.model.specs.declared.delta_snapshot.Content.{Content}
+use Rattle.model.specs.Layers.{Record, Layer, find, insert}
 use Rattle.model.proofs.SlotLaws.{split, not-both, and-left, and-right, slot-eqb-true, slot-eqb-sym, slot-ltb-irrefl, slot-ltb-total, slot-ltb-trans, slot-ltb-eqb}
 use Rattle.image.specs.WellFormed.{rising-from, rising}
 use Rattle.records.specs.declared.Order.{Order}
@@ -141,11 +142,11 @@ absent-cases r l b t i e first later =
     (λ q. later p q (rw (p, q) at e)))
 
 -- Among none a slot is absent, at the first place.
-found-nowhere : {P : Type 0} (b : ℕ) (t : Slot) (i : ℕ) → place-from b t [] ≡ At i → P
+found-nowhere : {P : Type 0} (b : ℕ) (t : Slot) (i : ℕ) → place-from {A = Content} b t [] ≡ At i → P
 unfolding place-from
 found-nowhere b t i e = let z : _≡_ {A = ℕ} 0 1 = cc in absurd (omega arith)
 
-absent-first : (b : ℕ) (t : Slot) (i : ℕ) → place-from b t [] ≡ Absent i → b ≡ i
+absent-first : (b : ℕ) (t : Slot) (i : ℕ) → place-from {A = Content} b t [] ≡ Absent i → b ≡ i
 unfolding place-from
 absent-first b t i e = cc
 

@@ -1,18 +1,22 @@
 -- The records that bytes begin with, one by one.
 use Prim.Native.Nat.{ℕ, zero, suc, _+_, _-_, _*_, _<_}
 use mathlib.Core.Path.{_≡_, refl, sym, ap, ap₂, _∙_}
-use mathlib.Core.Bool.{Bool, true, false, not, cond}
+use mathlib.Core.Bool.{true, false, not}
 use mathlib.Core.List.{List, [], _∷_, map}
 use native.Mathlib.Omega.{arith}
 use lib.Dec.{eqb}
 use lib.ListN.{length, drop, getD}
 use lib.Seq.{drop-drop}
 use Rattle.layout.specs.Layout.{has-index, last-use-index, record-size, record-width, slot-width, value-index}
-use Rattle.model.specs.declared.storage_memo.U256.{U256}
 use Rattle.model.specs.Numbers.{num}
-use Rattle.model.specs.Layers.{Content, use-only, valued, Record}
+use Rattle.model.specs.declared.delta_snapshot.Held.the-variants.{Nothing, Value as HeldValue}
+use Rattle.model.specs.Contents.{use-of, has-value}
+use Rattle.model.specs.Slots.{read-u256}
+use Rattle.model.specs.Layers.{Record}
+use Rattle.model.proofs.SlotLaws.{split, not-both}
+use Rattle.model.proofs.ContentLaws.{has-value-read}
 use Rattle.words.specs.Parts.{part}
-use Rattle.image.specs.Image.{words-of, entries, read-u256, read-slot, read-content, read-record}
+use Rattle.image.specs.Image.{words-of, entries, read-slot, read-record}
 use Rattle.image.specs.Area.{records-of}
 use Rattle.records.specs.Records.{words-at, record-at}
 use Rattle.records.proofs.Slots.{words-take, words-drop}
@@ -54,19 +58,19 @@ pub first-word-at : (n i : ℕ) (s : List ℕ) → i < n → num (part (i * reco
 unfolding words-of
 first-word-at n i s h = ap (λ (r : Record). r .slot .address .w0) (sym (record-words-at n i s h))
 
--- The content of record i, of what the fields' functions answer.
-abbrev pub content-of : ℕ → Bool → U256 → Content
-content-of u true v = valued u v
-content-of u false v = use-only u
-
-pick-content : (b : Bool) (u : ℕ) (v : U256) → cond b (use-only u) (valued u v) ≡ content-of u (not b) v
-pick-content true u v = refl
-pick-content false u v = refl
-
-content-fields : (b : List ℕ) → let w = words-of record-width b in read-content (drop slot-width w) ≡ content-of (getD w last-use-index 0) (not (eqb (getD w has-index 0) 0)) (read-u256 (drop value-index w))
+-- The content of record i: its last use, and its value or none.
+pub use-at : (i : ℕ) (s : List ℕ) → getD (words-at i s) last-use-index 0 ≡ use-of (read-record (words-at i s) .content)
 unfolding words-of
-content-fields b = let w = words-of record-width b in pick-content (eqb (getD w has-index 0) 0) (getD w last-use-index 0) (read-u256 (drop value-index w))
+use-at i s = refl
 
-pub content-at : (n i : ℕ) (s : List ℕ) → i < n
-    → record-at i (records-of n s) .content ≡ content-of (getD (words-at i s) last-use-index 0) (not (eqb (getD (words-at i s) has-index 0) 0)) (read-u256 (drop value-index (words-at i s)))
-content-at n i s h = ap (λ (r : Record). r .content) (record-words-at n i s h) ∙ content-fields (drop (i * record-size) s)
+pub has-value-at : (i : ℕ) (s : List ℕ) → not (eqb (getD (words-at i s) has-index 0) 0) ≡ has-value (read-record (words-at i s) .content)
+unfolding words-of
+has-value-at i s = sym (has-value-read (drop slot-width (words-at i s)))
+
+pub held-none : (i : ℕ) (s : List ℕ) → not (eqb (getD (words-at i s) has-index 0) 0) ≡ false → Nothing ≡ read-record (words-at i s) .content .held
+unfolding words-of
+held-none i s e = split (eqb (getD (words-at i s) has-index 0) 0) (λ q. rw q) (λ q. not-both (rw q) e)
+
+pub held-value : (i : ℕ) (s : List ℕ) → not (eqb (getD (words-at i s) has-index 0) 0) ≡ true → HeldValue (read-u256 (drop value-index (words-at i s))) ≡ read-record (words-at i s) .content .held
+unfolding words-of
+held-value i s e = split (eqb (getD (words-at i s) has-index 0) 0) (λ q. not-both e (rw q)) (λ q. rw q)

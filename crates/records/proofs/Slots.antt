@@ -12,10 +12,10 @@ use borrow.Author.Tests.{eq-eqb, ne-eqb, le-ltb}
 use Rattle.layout.specs.Layout.{record-size, slot-width, value-index, value-offset}
 use Rattle.model.specs.declared.delta_snapshot.Slot.{Slot}
 use Rattle.model.specs.Numbers.{num}
-use Rattle.model.specs.Slots.{slot-words, words-eqb, words-ltb, slot-eqb, slot-ltb}
+use Rattle.model.specs.Slots.{slot-words, words-eqb, words-ltb, slot-eqb, slot-ltb, read-u256}
 use Rattle.model.proofs.SlotLaws.{split}
 use Rattle.words.specs.Parts.{part}
-use Rattle.image.specs.Image.{words-of, read-u256, read-slot}
+use Rattle.image.specs.Image.{words-of, read-slot}
 use Rattle.records.specs.declared.Order.{Order}
 use Rattle.records.specs.declared.Order.the-variants.{Less, Equal, Greater}
 use Rattle.records.specs.Records.{slot-order, words-at}

@@ -3,15 +3,18 @@ use Prim.Native.Nat.{ℕ, suc, _+_, _-_, _*_, _≤_, _<_}
 use mathlib.Core.Path.{_≡_, refl, sym, ap, ap₂, _∙_}
 use mathlib.Core.List.{List, [], _∷_, _++_, append-assoc, append-nil}
 use native.Mathlib.Omega.{arith}
-use lib.ListN.{length, take, drop, length-append, length-drop, take-append-drop}
-use lib.Seq.{take-at, drop-at, drop-cons, drop-drop, length-take-le}
+use lib.ListN.{length, take, drop, length-append, length-drop, take-append-drop, drop-of-length-le}
+use lib.Seq.{take-at, drop-at, drop-cons, length-take-le}
 use Rattle.layout.specs.Layout.{content-size, last-use-offset, record-size, slot-size}
 use Rattle.model.specs.declared.delta_snapshot.Slot.{Slot}
 use Rattle.model.specs.Slots.{slot-words}
-use Rattle.model.specs.Layers.{Content, Record, Layer}
+use Rattle.model.specs.declared.delta_snapshot.Content.{Content}
+use Rattle.model.specs.Contents.{content-words}
+use Rattle.model.specs.Layers.{Record, Layer}
+use Rattle.model.proofs.ContentLaws.{content-wide}
 use Rattle.words.specs.Parts.{part, placed}
 use Rattle.words.proofs.Places.{placed-field}
-use Rattle.image.specs.Image.{bytes-of, content-words, record-words, all-record-words, read-record}
+use Rattle.image.specs.Image.{bytes-of, record-words, all-record-words, read-record}
 use Rattle.image.specs.Area.{with-records}
 use Rattle.image.proofs.Words.{length-bytes-of}
 use Rattle.image.proofs.Entries.{length-records}
@@ -41,6 +44,9 @@ length-image l = omega (arith, length-bytes-of (all-record-words l), length-reco
 length-record : (r : Record) → length (bytes-of (record-words r)) ≡ record-size
 unfolding all-record-words bytes-of
 length-record r = ap length (sym (append-nil (bytes-of (record-words r))) ∙ sym (image-cons r [])) ∙ length-image (r ∷ [])
+
+length-content : (c : Content) → length (bytes-of (content-words c)) ≡ content-size
+length-content c = omega (arith, length-bytes-of (content-words c), content-wide c)
 
 -- Bytes that begin with records, cut between two of them.
 front : (k l : Layer) (rest s : List ℕ) (m : ℕ) → image-of (k ++ l) ++ rest ≡ s → m ≡ record-size * length k → take m s ≡ image-of k
@@ -125,19 +131,20 @@ module _ (l : Layer) (s : List ℕ) (exact : with-records l s ≡ s) where
       let mid : image-of a ++ b ++ image-of k ++ z ≡ image-of a ++ (b ++ image-of k) ++ z = simp append-assoc in
       left ∙ mid ∙ sym right
 
-  -- the content of record i replaced, of which v is the new beginning
-  pub content-replaced : (i : ℕ) (t : Slot) (c : Content) (v : List ℕ) → i < length l → (record-size * length l) ≤ length s → record-at i l .slot ≡ t → length v ≤ content-size
-      → v ++ drop (length v) (bytes-of (content-words (record-at i l .content))) ≡ bytes-of (content-words c)
-      → placed (i * record-size + last-use-offset) v s ≡ with-records (take i l ++ (record { slot = t; content = c } ∷ drop (i + 1) l)) s
-  content-replaced i t c v h room e g f =
+  -- the content of record i replaced
+  pub content-replaced : (i : ℕ) (t : Slot) (c : Content) → i < length l → (record-size * length l) ≤ length s → record-at i l .slot ≡ t
+      → placed (i * record-size + last-use-offset) (bytes-of (content-words c)) s ≡ with-records (take i l ++ (record { slot = t; content = c } ∷ drop (i + 1) l)) s
+  content-replaced i t c h room e =
       let r = record-at i l in
+      let v = bytes-of (content-words c) in
       let x = bytes-of (slot-words (r .slot)) in
       let y = bytes-of (content-words (r .content)) in
       let p : part (i * record-size) record-size s ≡ x ++ y = record-part i h ∙ bytes-append (slot-words (r .slot)) (content-words (r .content)) in
       let n : length x ≡ slot-size = length-bytes-of (slot-words (r .slot)) in
-      let q : drop (slot-size + length v) (x ++ y) ≡ drop (length v) y = sym (drop-drop (length v) slot-size (x ++ y)) ∙ ap (drop (length v)) (drop-at x y slot-size n) in
-      let w : placed last-use-offset v (x ++ y) ≡ x ++ bytes-of (content-words c) = ap₂ (λ (a b : List ℕ). a ++ v ++ b) (take-at x y slot-size n) q ∙ append-assoc x v (drop (length v) y) ∙ ap (λ (b : List ℕ). x ++ b) f in
-      let o : x ++ bytes-of (content-words c) ≡ bytes-of (record-words (record { slot = t; content = c })) =
+      let g : length v ≡ content-size = length-content c in
+      let k : length (x ++ y) ≤ slot-size + length v = omega (arith, length-append x y, length-content (r .content)) in
+      let w : placed last-use-offset v (x ++ y) ≡ x ++ v = ap₂ (λ (a b : List ℕ). a ++ v ++ b) (take-at x y slot-size n) (drop-of-length-le (x ++ y) k) ∙ append-nil (x ++ v) in
+      let o : x ++ v ≡ bytes-of (record-words (record { slot = t; content = c })) =
       sym (bytes-append (slot-words (r .slot)) (content-words c)) ∙ ap (λ (u : Slot). bytes-of (slot-words u ++ content-words c)) e in
       placed-field (i * record-size) last-use-offset record-size v s (omega arith) (omega arith)
       ∙ ap (λ (b : List ℕ). placed (i * record-size) (placed last-use-offset v b) s) p

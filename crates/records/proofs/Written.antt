@@ -5,9 +5,11 @@ use mathlib.Core.List.{List, [], _∷_, _++_, append-assoc, append-nil}
 use native.Mathlib.Omega.{arith}
 use lib.ListN.{length, take, drop, length-append, length-take, length-drop}
 use lib.Seq.{take-at, drop-at, drop-drop, length-take-le}
-use Rattle.layout.specs.Layout.{record-size, record-width, slot-size, slot-width}
+use Rattle.layout.specs.Layout.{content-size, record-size, record-width, slot-size, slot-width}
 use Rattle.model.specs.Numbers.{be}
-use Rattle.model.proofs.NumberLaws.{length-be}
+use Rattle.model.specs.declared.delta_snapshot.Content.{Content}
+use Rattle.model.specs.Contents.{use-of, own-value, value-words, content-words}
+use Rattle.model.proofs.ContentLaws.{content-wide}
 use Rattle.words.specs.Parts.{part, placed}
 use Rattle.words.specs.Moved.{moved}
 use Rattle.words.proofs.Moves.{gap-filled}
@@ -34,35 +36,51 @@ placed-after at b v r s e h =
     sym (drop-drop (length r) b (a ++ v ++ d)) ∙ ap (drop (length r)) (drop-at (a ++ v) d b m) ∙ drop-drop (length r) (at + length v) s ∙ ap (λ (k : ℕ). drop k s) j in
     ap₂ (λ (x y : List ℕ). x ++ r ++ y) t u ∙ ap (λ (x : List ℕ). x ++ drop (at + length (v ++ r)) s) (append-assoc a v r)
 
--- One word, and one word more.
-one-word : (at w : ℕ) (s : List ℕ) {t : List ℕ} → t ≡ placed at (be 8 w) s → t ≡ placed at (bytes-of (w ∷ [])) s
+-- One word, more words after others, and one word more.
+pub one-word : (at w : ℕ) (s : List ℕ) {t : List ℕ} → t ≡ placed at (be 8 w) s → t ≡ placed at (bytes-of (w ∷ [])) s
 unfolding bytes-of
 one-word at w s e = rw append-nil e
 
+pub words-more : (at k : ℕ) (vs ws s : List ℕ) {t u : List ℕ} → k ≡ 8 * length ws → at + k + 8 * length vs ≤ length s → t ≡ placed at (bytes-of ws) s → u ≡ placed (at + k) (bytes-of vs) t
+    → u ≡ placed at (bytes-of (ws ++ vs)) s
+words-more at k vs ws s g h e f =
+    let n : at + k ≡ at + length (bytes-of ws) = omega (arith, length-bytes-of ws) in
+    let m : at + k + length (bytes-of vs) ≤ length s = omega (arith, length-bytes-of vs) in
+    f ∙ ap (placed (at + k) (bytes-of vs)) e ∙ placed-after at (at + k) (bytes-of ws) (bytes-of vs) s n m ∙ ap (λ (x : List ℕ). placed at x s) (sym (bytes-append ws vs))
+
 pub word-more : (at k w : ℕ) (ws s : List ℕ) {t u : List ℕ} → k ≡ 8 * length ws → at + k + 8 ≤ length s → t ≡ placed at (bytes-of ws) s → u ≡ placed (at + k) (be 8 w) t
     → u ≡ placed at (bytes-of (ws ++ (w ∷ []))) s
-unfolding bytes-of
-word-more at k w ws s g h e f =
-    let n : at + k ≡ at + length (bytes-of ws) = omega (arith, length-bytes-of ws) in
-    let m : at + k + length (be 8 w) ≤ length s = omega (arith, length-be 8 w) in
-    f ∙ ap (placed (at + k) (be 8 w)) e ∙ placed-after at (at + k) (bytes-of ws) (be 8 w) s n m
-    ∙ ap (λ (x : List ℕ). placed at x s) (ap (λ (x : List ℕ). bytes-of ws ++ x) (sym (append-nil (be 8 w))) ∙ sym (bytes-append ws (w ∷ [])))
+word-more at k w ws s {t} g h e f = words-more at k (w ∷ []) ws s g h e (one-word (at + k) w t f)
 
--- Six words, and seven, each written after the one before.
-module _ (at w0 w1 w2 w3 w4 w5 : ℕ) (s : List ℕ) {t0 t1 t2 t3 t4 t5 : List ℕ}
-    (e0 : t0 ≡ placed at (be 8 w0) s) (e1 : t1 ≡ placed (at + 8) (be 8 w1) t0) (e2 : t2 ≡ placed (at + 16) (be 8 w2) t1)
-    (e3 : t3 ≡ placed (at + 24) (be 8 w3) t2) (e4 : t4 ≡ placed (at + 32) (be 8 w4) t3) (e5 : t5 ≡ placed (at + 40) (be 8 w5) t4) where
-  pub six-words : at + 48 ≤ length s → t5 ≡ placed at (bytes-of (w0 ∷ w1 ∷ w2 ∷ w3 ∷ w4 ∷ w5 ∷ [])) s
-  six-words h =
-      let p0 = one-word at w0 s e0 in
-      let p1 = word-more at 8 w1 (w0 ∷ []) s refl (omega arith) p0 e1 in
-      let p2 = word-more at 16 w2 (w0 ∷ w1 ∷ []) s refl (omega arith) p1 e2 in
-      let p3 = word-more at 24 w3 (w0 ∷ w1 ∷ w2 ∷ []) s refl (omega arith) p2 e3 in
-      let p4 = word-more at 32 w4 (w0 ∷ w1 ∷ w2 ∷ w3 ∷ []) s refl (omega arith) p3 e4 in
-      word-more at 40 w5 (w0 ∷ w1 ∷ w2 ∷ w3 ∷ w4 ∷ []) s refl (omega arith) p4 e5
+-- Five words, and seven, each written after the one before.
+pub five-words : (at w0 w1 w2 w3 w4 : ℕ) (s : List ℕ) {t0 t1 t2 t3 t4 : List ℕ}
+    → t0 ≡ placed at (be 8 w0) s → t1 ≡ placed (at + 8) (be 8 w1) t0 → t2 ≡ placed (at + 16) (be 8 w2) t1 → t3 ≡ placed (at + 24) (be 8 w3) t2 → t4 ≡ placed (at + 32) (be 8 w4) t3
+    → at + 40 ≤ length s → t4 ≡ placed at (bytes-of (w0 ∷ w1 ∷ w2 ∷ w3 ∷ w4 ∷ [])) s
+five-words at w0 w1 w2 w3 w4 s e0 e1 e2 e3 e4 h =
+    let p0 = one-word at w0 s e0 in
+    let p1 = word-more at 8 w1 (w0 ∷ []) s refl (omega arith) p0 e1 in
+    let p2 = word-more at 16 w2 (w0 ∷ w1 ∷ []) s refl (omega arith) p1 e2 in
+    let p3 = word-more at 24 w3 (w0 ∷ w1 ∷ w2 ∷ []) s refl (omega arith) p2 e3 in
+    word-more at 32 w4 (w0 ∷ w1 ∷ w2 ∷ w3 ∷ []) s refl (omega arith) p3 e4
 
-  pub seven-words : (w6 : ℕ) {t6 : List ℕ} → t6 ≡ placed (at + 48) (be 8 w6) t5 → at + 56 ≤ length s → t6 ≡ placed at (bytes-of (w0 ∷ w1 ∷ w2 ∷ w3 ∷ w4 ∷ w5 ∷ w6 ∷ [])) s
-  seven-words w6 e6 h = word-more at 48 w6 (w0 ∷ w1 ∷ w2 ∷ w3 ∷ w4 ∷ w5 ∷ []) s refl (omega arith) (six-words (omega arith)) e6
+pub seven-words : (at w0 w1 w2 w3 w4 w5 : ℕ) (s : List ℕ) {t0 t1 t2 t3 t4 t5 : List ℕ}
+    → t0 ≡ placed at (be 8 w0) s → t1 ≡ placed (at + 8) (be 8 w1) t0 → t2 ≡ placed (at + 16) (be 8 w2) t1 → t3 ≡ placed (at + 24) (be 8 w3) t2 → t4 ≡ placed (at + 32) (be 8 w4) t3
+    → t5 ≡ placed (at + 40) (be 8 w5) t4 → (w6 : ℕ) {t6 : List ℕ} → t6 ≡ placed (at + 48) (be 8 w6) t5 → at + 56 ≤ length s
+    → t6 ≡ placed at (bytes-of (w0 ∷ w1 ∷ w2 ∷ w3 ∷ w4 ∷ w5 ∷ w6 ∷ [])) s
+seven-words at w0 w1 w2 w3 w4 w5 s e0 e1 e2 e3 e4 e5 w6 e6 h =
+    let p4 = five-words at w0 w1 w2 w3 w4 s e0 e1 e2 e3 e4 (omega arith) in
+    let p5 = word-more at 40 w5 (w0 ∷ w1 ∷ w2 ∷ w3 ∷ w4 ∷ []) s refl (omega arith) p4 e5 in
+    word-more at 48 w6 (w0 ∷ w1 ∷ w2 ∷ w3 ∷ w4 ∷ w5 ∷ []) s refl (omega arith) p5 e6
+
+-- A content: its use, its value or none, and a word 0.
+pub content-put : (at : ℕ) (c : Content) (s : List ℕ) {t0 t1 t2 : List ℕ} → at + content-size ≤ length s
+    → t0 ≡ placed at (be 8 (use-of c)) s → t1 ≡ placed (at + 8) (bytes-of (value-words (own-value c))) t0 → t2 ≡ placed (at + 48) (be 8 0) t1 → t2 ≡ placed at (bytes-of (content-words c)) s
+content-put at c s h e0 e1 e2 =
+    let v = value-words (own-value c) in
+    let n : length v ≡ 5 = omega (arith, content-wide c, length-append v (0 ∷ [])) in
+    let p0 = one-word at (use-of c) s e0 in
+    let p1 = words-more at 8 v (use-of c ∷ []) s refl (omega arith) p0 e1 in
+    word-more at 48 0 (use-of c ∷ v) s (omega arith) (omega arith) p1 e2
 
 -- A run moved up by a record's bytes, and a record's words in the gap.
 length-moved : (at len by : ℕ) (s : List ℕ) → at + by + len ≤ length s → length (moved at len by s) ≡ length s

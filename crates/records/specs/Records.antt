@@ -7,7 +7,7 @@ use lib.ListN.{length, drop, getD}
 use Rattle.layout.specs.Layout.{record-size, record-width, slot-width}
 use Rattle.model.specs.declared.delta_snapshot.Slot.{Slot}
 use Rattle.model.specs.Slots.{slot-eqb, slot-ltb}
-use Rattle.model.specs.Layers.{Record, Layer}
+use Rattle.model.specs.Layers.{LayerOf, Record, Layer}
 use Rattle.image.specs.Image.{words-of, read-slot, read-record}
 use Rattle.image.specs.WellFormed.{rising}
 use Rattle.image.specs.Area.{records-of, with-records}
@@ -21,12 +21,12 @@ unfoldable pub slot-order : Slot → Slot → Order
 slot-order a b = cond (slot-eqb a b) Equal (cond (slot-ltb a b) Less Greater)
 
 -- The place of a slot among records that rise and stand from place i on: where its record is, or where it would go.
-unfoldable pub place-from : ℕ → Slot → Layer → Found
+unfoldable pub place-from : {A : Type 0} → ℕ → Slot → LayerOf A → Found
 place-from i s [] = Absent i
 place-from i s (r ∷ l) = cond (slot-eqb (r .slot) s) (At i) (cond (slot-ltb s (r .slot)) (Absent i) (place-from (suc i) s l))
 
 -- The same for records that stand from place 0 on.
-abbrev pub place-in : Slot → Layer → Found
+abbrev pub place-in : {A : Type 0} → Slot → LayerOf A → Found
 place-in s l = place-from 0 s l
 
 -- The number of records, of n before, after a record is set at a place.

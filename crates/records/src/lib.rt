@@ -1,19 +1,22 @@
-// Records in a slice: a slot, its last use, and its value or none. They rise by slot.
+// Records in a slice: a slot and its content. They rise by slot.
+use model::delta_snapshot::Content;
+use model::delta_snapshot::Held;
 use model::delta_snapshot::Slot;
 use model::storage_memo::Address;
 use model::storage_memo::U256;
 ghost use mathlib.Core.Path.{_≡_};
-ghost use mathlib.Core.Bool.{true, not, cond};
+ghost use mathlib.Core.Bool.{true, cond};
 ghost use Prim.Native.Nat.{_+_, _-_, _*_, _≤_, _<_, _^_};
-ghost use mathlib.Core.List.{[], _∷_, _++_};
-ghost use lib.Dec.{eqb, ltb};
-ghost use lib.ListN.{length, take, drop, getD};
-ghost use Rattle.layout.specs.Layout.{content-size, has-index, last-use-index, record-size, slot-size, slot-width, value-index};
+ghost use mathlib.Core.List.{_∷_, _++_};
+ghost use lib.Dec.{ltb};
+ghost use lib.ListN.{length, take, drop};
+ghost use Rattle.layout.specs.Layout.{content-size, record-size, slot-size, slot-width, value-index};
 ghost use Rattle.model.specs.Numbers.{num};
-ghost use Rattle.model.specs.Slots.{slot-words, u256-words};
-ghost use Rattle.model.specs.Layers as layers;
+ghost use Rattle.model.specs.Slots.{slot-words, u256-words, read-u256};
+ghost use Rattle.model.specs.Contents.{held-option, use-of, has-value, touch, value-words, content-words};
+ghost use Rattle.model.specs.Layers.{Layer, find, insert};
 ghost use Rattle.words.specs.Parts.{part, placed};
-ghost use Rattle.image.specs.Image.{words-of, bytes-of, read-u256, read-slot};
+ghost use Rattle.image.specs.Image.{words-of, bytes-of, read-slot, read-record};
 ghost use Rattle.image.specs.WellFormed.{rising};
 ghost use Rattle.image.specs.Area.{records-of};
 ghost use Rattle.records.specs.Records.{slot-order, place-in, Entries, words-at, Ready, Holds};
@@ -105,21 +108,13 @@ pub fn compare(s: &[u8], at: usize, slot: Slot) -> Order
 // The last use of record i.
 pub fn last_use(s: &[u8], i: usize) -> u64
     requires { ⌜ (i + 1) * record-size ≤ length (now s) ⌝ }
-    ensures { λ r. ⌜ r ≡ getD (words-at i (now (s .entry))) last-use-index 0 ⌝ }
+    ensures { λ r. ⌜ r ≡ use-of (read-record (words-at i (now (s .entry))) .content) ⌝ }
 {
     words::read_u64(s, i * layout::RECORD_SIZE + layout::LAST_USE_OFFSET)
 }
 
-// Whether record i has a value.
-pub fn has_value(s: &[u8], i: usize) -> bool
-    requires { ⌜ (i + 1) * record-size ≤ length (now s) ⌝ }
-    ensures { λ r. ⌜ r ≡ not (eqb (getD (words-at i (now (s .entry))) has-index 0) 0) ⌝ }
-{
-    words::read_u64(s, i * layout::RECORD_SIZE + layout::HAS_OFFSET) != 0
-}
-
-// The value of record i.
-pub fn value(s: &[u8], i: usize) -> U256
+// The four words of the value of record i.
+fn value(s: &[u8], i: usize) -> U256
     requires { ⌜ (i + 1) * record-size ≤ length (now s) ⌝ }
     ensures { λ r. ⌜ r ≡ read-u256 (drop value-index (words-at i (now (s .entry)))) ⌝ }
 {
@@ -129,6 +124,36 @@ pub fn value(s: &[u8], i: usize) -> U256
         w1: words::read_u64(s, at + 8),
         w2: words::read_u64(s, at + 16),
         w3: words::read_u64(s, at + 24),
+    }
+}
+
+// Whether record i has a value.
+pub fn has_value(s: &[u8], i: usize) -> bool
+    requires { ⌜ (i + 1) * record-size ≤ length (now s) ⌝ }
+    ensures { λ r. ⌜ r ≡ has-value (read-record (words-at i (now (s .entry))) .content) ⌝ }
+{
+    words::read_u64(s, i * layout::RECORD_SIZE + layout::HAS_OFFSET) != 0
+}
+
+// The value of record i, or none.
+pub fn held(s: &[u8], i: usize) -> Held
+    requires { ⌜ (i + 1) * record-size ≤ length (now s) ⌝ }
+    ensures { λ r. ⌜ r ≡ read-record (words-at i (now (s .entry))) .content .held ⌝ }
+{
+    if has_value(s, i) {
+        return Held::Value(value(s, i));
+    }
+    Held::Nothing
+}
+
+// The content of record i.
+pub fn content(s: &[u8], i: usize) -> Content
+    requires { ⌜ (i + 1) * record-size ≤ length (now s) ⌝ }
+    ensures { λ r. ⌜ r ≡ read-record (words-at i (now (s .entry))) .content ⌝ }
+{
+    Content {
+        used: last_use(s, i),
+        held: held(s, i),
     }
 }
 
@@ -146,24 +171,54 @@ pub fn write_slot(s: &mut [u8], at: usize, slot: Slot)
     words::write_u64(s, at + 48, slot.index.w3);
 }
 
-// Writes a last use, a flag, a value and no second use at `at`.
-fn write_content(s: &mut [u8], at: usize, used: u64, flag: u64, value: U256)
-    requires { ⌜ at + content-size ≤ length (now s) ⌝ }
-    ensures { λ _. ⌜ now (s .exit) ≡ placed at (bytes-of (used ∷ flag ∷ (u256-words value ++ (0 ∷ [])))) (now (s .entry)) ⌝ }
+// Writes a flag and a value at `at`.
+fn write_value(s: &mut [u8], at: usize, flag: u64, value: U256)
+    requires { ⌜ at + 40 ≤ length (now s) ⌝ }
+    ensures { λ _. ⌜ now (s .exit) ≡ placed at (bytes-of (flag ∷ u256-words value)) (now (s .entry)) ⌝ }
 {
-    words::write_u64(s, at, used);
-    words::write_u64(s, at + 8, flag);
-    words::write_u64(s, at + 16, value.w0);
-    words::write_u64(s, at + 24, value.w1);
-    words::write_u64(s, at + 32, value.w2);
-    words::write_u64(s, at + 40, value.w3);
+    words::write_u64(s, at, flag);
+    words::write_u64(s, at + 8, value.w0);
+    words::write_u64(s, at + 16, value.w1);
+    words::write_u64(s, at + 24, value.w2);
+    words::write_u64(s, at + 32, value.w3);
+}
+
+// Writes a value or none at `at`.
+fn write_held(s: &mut [u8], at: usize, held: Held)
+    requires { ⌜ at + 40 ≤ length (now s) ⌝ }
+    ensures { λ _. ⌜ now (s .exit) ≡ placed at (bytes-of (value-words (held-option held))) (now (s .entry)) ⌝ }
+{
+    match held {
+        Held::Nothing => {
+            let zero = U256 {
+                w0: 0,
+                w1: 0,
+                w2: 0,
+                w3: 0,
+            };
+            write_value(s, at, 0, zero);
+        }
+        Held::Value(v) => {
+            write_value(s, at, 1, v);
+        }
+    }
+}
+
+// Writes a content at `at`, with no second use.
+pub fn write_content(s: &mut [u8], at: usize, c: Content)
+    requires { ⌜ at + content-size ≤ length (now s) ⌝ }
+    ensures { λ _. ⌜ now (s .exit) ≡ placed at (bytes-of (content-words c)) (now (s .entry)) ⌝ }
+{
+    let held = c.held;
+    words::write_u64(s, at, c.used);
+    write_held(s, at + 8, held);
     words::write_u64(s, at + 48, 0);
 }
 
 // The place of a slot among n entries of `wide` bytes each, which begin with their slots and rise, by halves.
 pub fn search(s: &[u8], wide: usize, n: usize, slot: Slot) -> Found
     requires { ⌜ (slot-size ≤ wide) × (n * wide ≤ length (now s)) ⌝ }
-    ensures { λ r. ⌜ ((l : layers.Layer) → Entries wide n (now (s .entry)) l → r ≡ place-in slot l) ⌝ }
+    ensures { λ r. ⌜ ((l : Layer) → Entries wide n (now (s .entry)) l → r ≡ place-in slot l) ⌝ }
 {
     let mut lo = 0;
     let mut hi = n;
@@ -191,9 +246,9 @@ pub fn find(s: &[u8], n: usize, slot: Slot) -> Found
 }
 
 // Puts a record before record i of the n that s begins with.
-fn insert_at(s: &mut [u8], n: usize, i: usize, slot: Slot, used: u64, flag: u64, value: U256)
+fn insert_at(s: &mut [u8], n: usize, i: usize, slot: Slot, c: Content)
     requires { ⌜ (i ≤ n) × ((n + 1) * record-size ≤ length (now s)) ⌝ }
-    ensures { λ _. ⌜ now (s .exit) ≡ take (i * record-size) (now (s .entry)) ++ bytes-of (slot-words slot ++ (used ∷ flag ∷ (u256-words value ++ (0 ∷ [])))) ++ part (i * record-size) ((n - i) * record-size) (now (s .entry)) ++ drop ((n + 1) * record-size) (now (s .entry)) ⌝ }
+    ensures { λ _. ⌜ now (s .exit) ≡ take (i * record-size) (now (s .entry)) ++ bytes-of (slot-words slot ++ content-words c) ++ part (i * record-size) ((n - i) * record-size) (now (s .entry)) ++ drop ((n + 1) * record-size) (now (s .entry)) ⌝ }
 {
     words::move_up(
         s,
@@ -202,33 +257,21 @@ fn insert_at(s: &mut [u8], n: usize, i: usize, slot: Slot, used: u64, flag: u64,
         layout::RECORD_SIZE,
     );
     write_slot(s, i * layout::RECORD_SIZE, slot);
-    write_content(
-        s,
-        i * layout::RECORD_SIZE + layout::LAST_USE_OFFSET,
-        used,
-        flag,
-        value,
-    );
+    write_content(s, i * layout::RECORD_SIZE + layout::LAST_USE_OFFSET, c);
 }
 
-// Sets a slot's record, which stands or goes at `place`, to a last use and a value; the number of records then.
-pub fn settle(s: &mut [u8], n: usize, place: Found, slot: Slot, value: U256, used: u64) -> usize
+// Sets the content of a slot's record, which stands or goes at `place`; the number of records then.
+pub fn set(s: &mut [u8], n: usize, place: Found, slot: Slot, c: Content) -> usize
     requires { ⌜ Ready place slot n (now s) ⌝ }
-    ensures { λ r. ⌜ Holds r (now (s .exit)) (layers.settle used slot value (records-of n (now (s .entry)))) (now (s .entry)) ⌝ }
+    ensures { λ r. ⌜ Holds r (now (s .exit)) (insert slot c (records-of n (now (s .entry)))) (now (s .entry)) ⌝ }
 {
     match place {
         Found::At(i) => {
-            write_content(
-                s,
-                i * layout::RECORD_SIZE + layout::LAST_USE_OFFSET,
-                used,
-                1,
-                value,
-            );
+            write_content(s, i * layout::RECORD_SIZE + layout::LAST_USE_OFFSET, c);
             n
         }
         Found::Absent(i) => {
-            insert_at(s, n, i, slot, used, 1, value);
+            insert_at(s, n, i, slot, c);
             n + 1
         }
     }
@@ -237,22 +280,22 @@ pub fn settle(s: &mut [u8], n: usize, place: Found, slot: Slot, value: U256, use
 // Sets the last use of a slot's record, which stands or goes at `place`; its value stays. The number of records then.
 pub fn touch(s: &mut [u8], n: usize, place: Found, slot: Slot, used: u64) -> usize
     requires { ⌜ Ready place slot n (now s) ⌝ }
-    ensures { λ r. ⌜ Holds r (now (s .exit)) (layers.insert slot (layers.touch used (layers.find slot (records-of n (now (s .entry))))) (records-of n (now (s .entry)))) (now (s .entry)) ⌝ }
+    ensures { λ r. ⌜ Holds r (now (s .exit)) (insert slot (touch used (find slot (records-of n (now (s .entry))))) (records-of n (now (s .entry)))) (now (s .entry)) ⌝ }
 {
     match place {
         Found::At(i) => {
-            words::write_u64(s, i * layout::RECORD_SIZE + layout::LAST_USE_OFFSET, used);
-            n
+            let c = content(s, i).touch(used);
+            set(s, n, place, slot, c)
         }
-        Found::Absent(i) => {
-            let zero = U256 {
-                w0: 0,
-                w1: 0,
-                w2: 0,
-                w3: 0,
-            };
-            insert_at(s, n, i, slot, used, 0, zero);
-            n + 1
-        }
+        Found::Absent(_) => set(
+            s,
+            n,
+            place,
+            slot,
+            Content {
+                used,
+                held: Held::Nothing,
+            },
+        ),
     }
 }

@@ -11,10 +11,12 @@ use borrow.Author.Tests.{le-leb, lt-leb}
 use Rattle.model.specs.declared.delta_snapshot.Slot.{Slot}
 use Rattle.model.specs.declared.delta_snapshot.Retention.{Retention}
 use Rattle.model.specs.Slots.{Value, LastUse, slot-eqb, slot-ltb}
-use Rattle.model.specs.Layers.{Content, Record, Layer, find, last-use-of, value-of, or-else, max-option, held-value, freshest-use, record-count}
+use Rattle.model.specs.declared.delta_snapshot.Content.{Content}
+use Rattle.model.specs.Contents.{last-use-of, value-of, or-else, max-option, content-fits, content-ok, top-content-ok}
+use Rattle.model.specs.Layers.{RecordOf, LayerOf, Record, Layer, find, held-value, freshest-use, record-count}
 use Rattle.model.proofs.SlotLaws.{split, and-left, and-right, and-intro, and-true, and-false, slot-eqb-true, slot-eqb-sym, slot-ltb-trans, slot-ltb-eqb}
 use Rattle.model.specs.Store.{Generation, chain}
-use Rattle.image.specs.WellFormed.{slot-fits, content-fits, every, rising-from, rising, content-ok, chain-ok, top-content-ok, records-ok}
+use Rattle.image.specs.WellFormed.{slot-fits, every, rising-from, rising, chain-ok, records-ok}
 use Rattle.image.specs.Image.{flat-records}
 use Rattle.image.proofs.Entries.{length-flat}
 use Rattle.rules.specs.Rules.{group, newest-value, freshest, rule, rules-from, cross-rules, all-rising, all-content-ok}
@@ -25,19 +27,19 @@ use Rattle.rules.proofs.GroupLaws.{group-append, newest-snoc, freshest-
 apart : (s t : Slot) → slot-ltb s t ≡ true → slot-eqb t s ≡ false
 apart s t l = slot-eqb-sym t s ∙ slot-ltb-eqb s t l
 
-rising-lower : (a b : Slot) (l : Layer) → slot-ltb a b ≡ true → rising-from b l ≡ true → rising-from a l ≡ true
+pub rising-lower : {A : Type 0} (a b : Slot) (l : LayerOf A) → slot-ltb a b ≡ true → rising-from b l ≡ true → rising-from a l ≡ true
 unfolding rising-from
 rising-lower a b [] h e = refl
 rising-lower a b (r ∷ l) h e =
     and-intro (slot-ltb a (r .slot)) (rising-from (r .slot) l) (slot-ltb-trans a b (r .slot) h (and-left (slot-ltb b (r .slot)) _ e)) (and-right (slot-ltb b (r .slot)) _ e)
 
-rising-rest : (a : Slot) (l : Layer) → rising-from a l ≡ true → rising l ≡ true
+pub rising-rest : {A : Type 0} (a : Slot) (l : LayerOf A) → rising-from a l ≡ true → rising l ≡ true
 unfolding rising-from
 rising-rest a [] e = refl
 rising-rest a (r ∷ l) e = and-right (slot-ltb a (r .slot)) _ e
 
 -- A layer that rises from a slot has no record of it.
-none-after : (s : Slot) (l : Layer) → rising-from s l ≡ true → group s l ≡ []
+none-after : {A : Type 0} (s : Slot) (l : LayerOf A) → rising-from s l ≡ true → group s l ≡ []
 unfolding rising-from group
 none-after s [] e = refl
 none-after s (r ∷ l) e =
@@ -45,11 +47,11 @@ none-after s (r ∷ l) e =
     rw (apart s (r .slot) h) (none-after s l (rising-lower s (r .slot) l h (and-right (slot-ltb s (r .slot)) _ e)))
 
 -- A slot's records in such a layer are the one that a search finds, or none.
-data Found : Layer → Option Content → Type 0 where
+data Found {A : Type 0} : LayerOf A → Option A → Type 0 where
   nothing : Found [] none
-  one : (r : Record) → Found (r ∷ []) (some (r .content))
+  one : (r : RecordOf A) → Found (r ∷ []) (some (r .content))
 
-found : (s : Slot) (l : Layer) → rising l ≡ true → Found (group s l) (find s l)
+found : {A : Type 0} (s : Slot) (l : LayerOf A) → rising l ≡ true → Found (group s l) (find s l)
 unfolding group find
 found s [] e = nothing
 found s (r ∷ l) e =
@@ -87,16 +89,16 @@ freshest-held s (l ∷ ls) e =
 -- The rules of one layer -----------------------------------------------------------------------------------------------
 
 -- No record of the layer has its slot among the records before it.
-data Apart (before : Layer) : Layer → Type 0 where
+data Apart {A : Type 0} (before : LayerOf A) : LayerOf A → Type 0 where
   no-more : Apart before []
-  and-one : {r : Record} {l : Layer} → group (r .slot) before ≡ [] → Apart before l → Apart before (r ∷ l)
+  and-one : {r : RecordOf A} {l : LayerOf A} → group (r .slot) before ≡ [] → Apart before l → Apart before (r ∷ l)
 
-apart-none : (l : Layer) → Apart [] l
+apart-none : {A : Type 0} (l : LayerOf A) → Apart [] l
 unfolding group
 apart-none [] = no-more
 apart-none (r ∷ l) = and-one refl (apart-none l)
 
-apart-more : (before : Layer) (r : Record) (l : Layer) → rising-from (r .slot) l ≡ true → Apart before l → Apart (before ++ (r ∷ [])) l
+apart-more : {A : Type 0} (before : LayerOf A) (r : RecordOf A) (l : LayerOf A) → rising-from (r .slot) l ≡ true → Apart before l → Apart (before ++ (r ∷ [])) l
 unfolding rising-from group
 apart-more before r [] e no-more = no-more
 apart-more before r (q ∷ l) e (and-one p a) =
@@ -119,12 +121,12 @@ and-swap true false true d = refl
 and-swap true false false d = refl
 and-swap false b c d = refl
 
-every-same : (p q : Slot → Content → Bool) (l : Layer) → ((s : Slot) (c : Content) → p s c ≡ q s c) → every p l ≡ every q l
+every-same : {A : Type 0} (p q : Slot → A → Bool) (l : LayerOf A) → ((s : Slot) (c : A) → p s c ≡ q s c) → every p l ≡ every q l
 unfolding every
 every-same p q [] f = refl
 every-same p q (r ∷ l) f = ap₂ (λ (x y : Bool). x && y) (f (r .slot) (r .content)) (every-same p q l f)
 
-every-both : (p q : Slot → Content → Bool) (l : Layer) → every (λ s c. p s c && q s c) l ≡ (every p l && every q l)
+every-both : {A : Type 0} (p q : Slot → A → Bool) (l : LayerOf A) → every (λ s c. p s c && q s c) l ≡ (every p l && every q l)
 unfolding every
 every-both p q [] = refl
 every-both p q (r ∷ l) =
@@ -206,7 +208,7 @@ rules-mean R now top base e b =
 
 -- The records of a store ---------------------------------------------------------------------------------------------------
 
-every-append : (p : Slot → Content → Bool) (k l : Layer) → every p (k ++ l) ≡ (every p k && every p l)
+pub every-append : {A : Type 0} (p : Slot → A → Bool) (k l : LayerOf A) → every p (k ++ l) ≡ (every p k && every p l)
 unfolding every
 every-append p [] l = refl
 every-append p (r ∷ k) l = ap (λ (x : Bool). p (r .slot) (r .content) && x) (every-append p k l) ∙ sym (and-assoc (p (r .slot) (r .content)) (every p k) (every p l))

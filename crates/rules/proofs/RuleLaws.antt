@@ -14,29 +14,24 @@ use Rattle.model.specs.declared.delta_snapshot.Slot.{Slot}
 use Rattle.model.specs.declared.delta_snapshot.Retention.{Retention}
 use Rattle.model.specs.declared.delta_snapshot.Retention.the-variants.{Unbounded, IdleBlocks}
 use Rattle.model.specs.Slots.{Value, LastUse, slot-words, slot-eqb, serves}
-use Rattle.model.specs.Layers.{Content, use-only, valued, Record, Layer, last-use-of, value-of, or-else, max-option, is-some}
+use Rattle.model.specs.declared.delta_snapshot.Content.{Content}
+use Rattle.model.specs.Contents.{last-use-of, own-value, is-some, at-most, content-ok, use-serves, top-content-ok, use-of, has-value}
+use Rattle.model.specs.Layers.{Record, Layer}
 use Rattle.model.proofs.SlotLaws.{split, and-left, and-right, or-right}
-use Rattle.image.specs.WellFormed.{content-ok, top-content-ok}
 use Rattle.image.specs.Area.{records-of}
-use Rattle.image.proofs.Words.{Fit}
+use Rattle.model.proofs.WordLaws.{Fit}
 use Rattle.order.specs.Index.{number-of, slot-number, numbers, no-record, pick, up-from, Ordered, words-number}
 use Rattle.order.proofs.IndexLaws.{up-more, pick-append}
 use Rattle.order.proofs.NumberLaws.{slot-eqb-number}
 use Rattle.order.proofs.RecordLaws.{Bytes, length-records-of, record-at, fit-slot-at}
 use Rattle.image.specs.Image.{words-of, read-record}
 use Rattle.order.specs.Index.{slot-at}
-use Rattle.order.specs.Walk.{use-of, has-value}
 use Rattle.rules.specs.Rules.{group, newest-value, freshest, rule, rules-from, cross-rules, oldest-use, broken}
 use Rattle.order.proofs.CountLaws.{mem, count, count-none, count-zero}
 use Rattle.order.proofs.WalkLaws.{along, walk, walk-says}
-use Rattle.rules.proofs.GroupLaws.{group-append, newest-snoc, freshest-snoc, use-of-valued}
+use Rattle.rules.proofs.GroupLaws.{or-comm, or-zero, or-zero-max, is-some-or-else, group-append, newest-snoc, freshest-snoc, use-of-valued}
 
 -- One record ------------------------------------------------------------------------------------------------------
-
--- A use, or 0 for none.
-abbrev pub or-zero : Option ℕ → ℕ
-or-zero none = 0
-or-zero (some u) = u
 
 leb-not : (a b : ℕ) → leb a b ≡ not (ltb b a)
 leb-not a b = split (ltb b a) (λ e. lt-leb a b (ltb-true b a e) ∙ sym (rw e)) (λ e. le-leb a b (ltb-false b a e) ∙ sym (rw e))
@@ -70,14 +65,15 @@ none-valued false false = refl
 -- The rules of a content over records of its slot with held value h and freshest use f, and the test that is made.
 content-broken : (R : Retention) (now : ℕ) (t : Bool) (c : Content) (h : Option Value) (f : Option LastUse) → (is-some h ≡ true → is-some f ≡ true)
     → (content-ok now h f c && (not t || top-content-ok R now f c)) ≡ not (broken (oldest-use R now) now t (has-value c) (is-some h) (or-zero f) (use-of c))
-content-broken R now t (use-only u) none f q = none-valued (ltb u (or-zero f)) (ltb now u)
-content-broken R now t (use-only u) (some v) none q = absurd (true≢false (sym (q refl)))
-content-broken R now t (use-only u) (some v) (some w) q =
-    rw (leb-not w u, leb-not u now, serves-oldest R w now) (three (ltb u w) (ltb now u) t (ltb w (oldest-use R now)))
-content-broken R now t (valued u v) h none q =
-    rw (leb-not u now, le-ltb u 0 (omega arith)) (two false (ltb now u) t)
-content-broken R now t (valued u v) h (some w) q =
-    rw (leb-not w u, leb-not u now) (two (ltb u w) (ltb now u) t)
+content-broken R now t c h f q = go (has-value c) (use-of c) h f q
+  where
+    go : (has : Bool) (u : LastUse) (h : Option Value) (f : Option LastUse) → (is-some h ≡ true → is-some f ≡ true)
+        → ((has || is-some h) && (at-most f u && leb u now) && (not t || (has || use-serves R now f))) ≡ not (broken (oldest-use R now) now t has (is-some h) (or-zero f) u)
+    go false u none f q = none-valued (ltb u (or-zero f)) (ltb now u)
+    go false u (some v) none q = absurd (true≢false (sym (q refl)))
+    go false u (some v) (some w) q = rw (leb-not w u, leb-not u now, serves-oldest R w now) (three (ltb u w) (ltb now u) t (ltb w (oldest-use R now)))
+    go true u h none q = rw (leb-not u now, le-ltb u 0 (omega arith)) (two false (ltb now u) t)
+    go true u h (some w) q = rw (leb-not w u, leb-not u now) (two (ltb u w) (ltb now u) t)
 
 -- What is known of a slot's records ---------------------------------------------------------------------------------
 
@@ -105,22 +101,10 @@ record Knows (m : Met) (g : Layer) : Type 0 where
   any-is : m .any ≡ is-some (newest-value g)
   low-is : m .low ≡ or-zero (freshest g)
 
-any-more : (c : Content) (o : Option Value) (a : Bool) → a ≡ is-some o → (a || has-value c) ≡ is-some (or-else (value-of (some c)) o)
-any-more (use-only u) o true e = e
-any-more (use-only u) o false e = e
-any-more (valued u v) o true e = refl
-any-more (valued u v) o false e = refl
-
-low-more : (c : Content) (o : Option ℕ) (n : ℕ) → n ≡ or-zero o → max n (use-of c) ≡ or-zero (max-option (last-use-of (some c)) o)
-low-more (use-only u) none n e = omega arith
-low-more (use-only u) (some w) n e = omega arith
-low-more (valued u v) none n e = omega arith
-low-more (valued u v) (some w) n e = omega arith
-
 knows-more : (o now : ℕ) (t : Bool) (m : Met) (g : Layer) (r : Record) → Knows m g → Knows (meet o now t m (r .content)) (g ++ (r ∷ []))
 knows-more o now t m g r k = record {
-  any-is = any-more (r .content) (newest-value g) (m .any) (k .any-is) ∙ ap is-some (sym (newest-snoc g r));
-  low-is = low-more (r .content) (freshest g) (m .low) (k .low-is) ∙ ap or-zero (sym (freshest-snoc g r));
+  any-is = ap (λ (a : Bool). a || has-value (r .content)) (k .any-is) ∙ or-comm (is-some (newest-value g)) (has-value (r .content)) ∙ sym (is-some-or-else (own-value (r .content)) (newest-value g)) ∙ ap is-some (sym (newest-snoc g r));
+  low-is = omega (arith, k .low-is, or-zero-max (last-use-of (some (r .content))) (freshest g)) ∙ ap or-zero (sym (freshest-snoc g r));
 }
 
 along-append : {A B : Type 0} (f : A → B → A) (a : A) (xs ys : List B) → along f a (xs ++ ys) ≡ along f (along f a xs) ys

@@ -1,6 +1,6 @@
 -- The rules across layers of document 01's well-formed store, over its records as they stand: the lowest layer's first, the top's last.
 use Prim.Native.Nat.{ℕ, _-_}
-use mathlib.Core.Bool.{Bool, true, false, not, _&&_, _||_, cond}
+use mathlib.Core.Bool.{Bool, true, not, _&&_, _||_, cond}
 use mathlib.Core.List.{List, [], _∷_, _++_}
 use mathlib.Core.Option.{Option, some, none}
 use lib.Dec.{leb, ltb}
@@ -9,11 +9,12 @@ use Rattle.model.specs.declared.delta_snapshot.Slot.{Slot}
 use Rattle.model.specs.declared.delta_snapshot.Retention.{Retention}
 use Rattle.model.specs.declared.delta_snapshot.Retention.the-variants.{Unbounded, IdleBlocks}
 use Rattle.model.specs.Slots.{Value, LastUse, slot-eqb}
-use Rattle.model.specs.Layers.{Record, Layer, last-use-of, value-of, or-else, max-option, held-value, freshest-use}
-use Rattle.image.specs.WellFormed.{every, rising, content-ok, top-content-ok}
+use Rattle.model.specs.Contents.{last-use-of, value-of, or-else, max-option, content-ok, top-content-ok}
+use Rattle.model.specs.Layers.{LayerOf, Record, Layer, held-value, freshest-use}
+use Rattle.image.specs.WellFormed.{every, rising}
 
 -- The records of a slot, in their order: the lowest layer's first.
-unfoldable pub group : Slot → Layer → Layer
+unfoldable pub group : {A : Type 0} → Slot → LayerOf A → LayerOf A
 group s [] = []
 group s (r ∷ rs) = cond (slot-eqb (r .slot) s) (r ∷ group s rs) (group s rs)
 
@@ -44,7 +45,7 @@ cross-rules R now top rs = rules-from R now top [] rs
 -- What the rules mean for layers -----------------------------------------------------------------------------
 
 -- Every layer rises.
-unfoldable pub all-rising : List Layer → Bool
+unfoldable pub all-rising : {A : Type 0} → List (LayerOf A) → Bool
 all-rising [] = true
 all-rising (l ∷ ls) = rising l && all-rising ls
 

@@ -12,6 +12,7 @@ use borrow.Rule.Slice.PartMut.{putMid}
 use Rattle.layout.specs.Layout.{max-depth-offset, record-size, records-offset}
 use Rattle.model.specs.declared.storage_memo.ReadAnchor.{ReadAnchor}
 use Rattle.model.specs.declared.delta_snapshot.Retention.{Retention}
+use Rattle.model.specs.declared.delta_snapshot.CompactionReport.{CompactionReport}
 use Rattle.model.specs.Numbers.{Bytes}
 use Rattle.model.specs.Layers.{Record, Layer, record-count}
 use Rattle.model.specs.Advance.{Compaction, no-compaction, compact, compact-if, compact-base, seal}
@@ -31,9 +32,7 @@ use Rattle.counts.proofs.LayerCounts.{chain-rises}
 use Rattle.fold.specs.Fold.{folded, dropped-in}
 use Rattle.fold.proofs.FoldedLaws.{compact-is}
 use Rattle.fold.proofs.FitLaws.{folded-short}
-use Rattle.seal.specs.declared.CompactionCounts.{CompactionCounts}
 use Rattle.seal.specs.Sealed.{begun-on, compacted, Sealed, header-words, with-layer, topped-up}
-use Rattle.seal.specs.Report.{report-of}
 use Rattle.seal.proofs.Kept.{records-rest}
 use Rattle.seal.proofs.Folded.{bytes-in, length-in, two-layers, folded-by}
 
@@ -142,14 +141,14 @@ module _ (s : List ℕ) (limit n : ℕ) (h : Installed s) (p : limit ≡ word ma
   fold-not-due l = due-is s false (le-ltb (store-of s .config .max-depth) (length (generation-of s .base)) (omega (arith, limit-is)))
 
   -- What was sealed, of a fold that is due and of one that is not.
-  pub sealed-due : {c : CompactionCounts} {x y : List ℕ} (child : ReadAnchor) → limit < n
+  pub sealed-due : {c : CompactionReport} {x y : List ℕ} (child : ReadAnchor) → limit < n
       → Sealed c x y (store-of s .config) child (generation-of s .top) (compact (store-of s .config .retention) (generation-of s .anchor .number) (generation-of s .base))
       → Sealed c x y (store-of s .config) child (generation-of s .top) (compacted (store-of s .config) (generation-of s))
   sealed-due {c} {x} {y} child l z = subst (λ (k : Compaction). Sealed c x y (store-of s .config) child (generation-of s .top) k) (fold-due l) z
 
-  pub sealed-not-due : {c : CompactionCounts} {x y : List ℕ} (child : ReadAnchor) → n ≤ limit → x ≡ overlay (begun-on (store-of s .config) child (seal (generation-of s .top) (generation-of s .base))) y → report-of c ≡ no-compaction
+  pub sealed-not-due : {c : CompactionReport} {x y : List ℕ} (child : ReadAnchor) → n ≤ limit → x ≡ overlay (begun-on (store-of s .config) child (seal (generation-of s .top) (generation-of s .base))) y → c ≡ no-compaction
       → Sealed c x y (store-of s .config) child (generation-of s .top) (compacted (store-of s .config) (generation-of s))
-  sealed-not-due {c} {x} {y} child l e r = subst (λ (k : Compaction). Sealed c x y (store-of s .config) child (generation-of s .top) k) (fold-not-due l) (record { bytes-are = e; counts-are = r })
+  sealed-not-due {c} {x} {y} child l e r = subst (λ (k : Compaction). Sealed c x y (store-of s .config) child (generation-of s .top) k) (fold-not-due l) (record { bytes-are = e; report-is = r })
 
   pub layers-few : n ≤ limit → length (generation-of s .base) ≤ 255
   layers-few l = omega (arith, limit-is, generation-in s h .store .depth-limit)

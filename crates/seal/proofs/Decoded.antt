@@ -75,7 +75,7 @@ carried-decodes s w child h f e =
     let b : List Layer = seal (g .top) (compacted cfg g .base) in
     let ok : generation-ok cfg g ≡ true = installed-right s h in
     let few : length (g .top) + record-count (g .base) ≤ cfg .capacity = bytes .facts .few-records in
-    let k : GenerationOk cfg (new-generation child b []) = carry-ok cfg child [] [] f refl g (generation-parts cfg g ok) (depth-some cfg c) e in
+    let k : GenerationOk cfg (new-generation child b []) = carry-ok cfg child (record { skip = 0; relevance = []; writes = [] }) f refl g (generation-parts cfg g ok) (depth-some cfg c) e in
     decode-image (record { config = cfg; installed = some (new-generation child b []) }) _
     (begun-right cfg child b c k (omega (arith, seal-few (g .top) (compacted cfg g .base), compact-few s (ltb (cfg .max-depth) (length (g .base))) h)))
 

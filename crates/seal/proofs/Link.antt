@@ -14,7 +14,8 @@ use Rattle.model.specs.declared.storage_memo.BlockHash.the-variants.{Unknown, K
 use Rattle.model.specs.declared.storage_memo.ReadAnchor.{ReadAnchor}
 use Rattle.model.specs.declared.read_hub.Lineage.the-variants.{Linked, NoParent, NotConsecutive, ParentHashUnknown, ParentHashMismatch}
 use Rattle.model.specs.Slots.{u256-words, words-eqb, u256-eqb}
-use Rattle.model.specs.Layers.{Layer, record-count, is-some}
+use Rattle.model.specs.Contents.{is-some}
+use Rattle.model.specs.Layers.{Layer, record-count}
 use Rattle.model.specs.Store.{Generation}
 use Rattle.model.proofs.SlotLaws.{not-both}
 use Rattle.seal.specs.Sealed.{anchor-of}

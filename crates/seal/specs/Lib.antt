@@ -1,3 +1,2 @@
 -- What a store is after the seal of an advance.
-pub mod Report
 pub mod Sealed

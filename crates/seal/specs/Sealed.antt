@@ -6,14 +6,13 @@ use mathlib.Core.Option.{Option, some, none}
 use lib.ListN.{length, replicate}
 use Rattle.layout.specs.Layout.{awaiting-table, depth-offset, ends-limit, ends-offset, record-size, records-offset}
 use Rattle.model.specs.declared.storage_memo.ReadAnchor.{ReadAnchor}
+use Rattle.model.specs.declared.delta_snapshot.CompactionReport.{CompactionReport}
 use Rattle.model.specs.Numbers.{be}
 use Rattle.model.specs.Layers.{Layer}
 use Rattle.model.specs.Advance.{Compaction, compact-base, seal}
 use Rattle.model.specs.Store.{Config, Generation, Store, Memory, new-generation}
 use Rattle.words.specs.Parts.{placed}
 use Rattle.image.specs.Image.{bytes-of, hash-words, all-record-words, padded, config-words, overlay}
-use Rattle.seal.specs.declared.CompactionCounts.{CompactionCounts}
-use Rattle.seal.specs.Report.{report-of}
 
 -- The anchor of what is installed, or none.
 abbrev pub anchor-of : Option Generation → Option ReadAnchor
@@ -32,10 +31,10 @@ begun-on cfg a b = some (record { config = cfg; installed = some (new-generation
 abbrev pub compacted : Config → Generation → Compaction
 compacted cfg g = compact-base (cfg .retention) (cfg .max-depth) (g .anchor .number) (g .base)
 
--- What a seal leaves in the work area, and its counts: of the top and of the base as it is before the seal, folded or not.
-pub record Sealed (c : CompactionCounts) (after before : List ℕ) (cfg : Config) (child : ReadAnchor) (t : Layer) (k : Compaction) : Type 0 where
+-- What a seal leaves in the work area, and its report: of the top and of the base as it is before the seal, folded or not.
+pub record Sealed (c : CompactionReport) (after before : List ℕ) (cfg : Config) (child : ReadAnchor) (t : Layer) (k : Compaction) : Type 0 where
   pub bytes-are : after ≡ overlay (begun-on cfg child (seal t (k .base))) before
-  pub counts-are : report-of c ≡ k .report
+  pub report-is : c ≡ k .report
 
 -- The words before the records of a store with a new generation: of its depth, its number of records and its layer ends.
 unfoldable pub header-words : Config → ReadAnchor → ℕ → ℕ → List ℕ → List ℕ

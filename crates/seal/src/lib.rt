@@ -1,5 +1,6 @@
 // The link of an advance, and the store after its seal, built in the work area.
 use model::bal_prefetch::BalSkip;
+use model::delta_snapshot::CompactionReport;
 use model::read_hub::Lineage;
 use model::storage_memo::B256;
 use model::storage_memo::BlockHash;
@@ -21,13 +22,6 @@ ghost use Rattle.seal.specs.Sealed.{installed-anchor, header-words, with
 
 // The largest number of a block: it has no child.
 const LAST_NUMBER: u64 = 0xffff_ffff_ffff_ffff;
-
-// A fold's counts (`CompactionReport`): layers merged, slots left, slots dropped.
-pub struct CompactionCounts {
-    pub merged: usize,
-    pub left: usize,
-    pub dropped: usize,
-}
 
 // How the installed anchor's hash stands to the hash that the child names as its parent's.
 fn classify_hash(s: &[u8], parent_hash: B256) -> Lineage
@@ -208,7 +202,7 @@ fn place_top(s: &[u8], work: &mut [u8], left: usize)
 }
 
 // The seal over a fold: the base becomes one layer, folded at the installed number, and the top a layer over it.
-fn seal_folded(s: &[u8], work: &mut [u8], child: ReadAnchor) -> CompactionCounts
+fn seal_folded(s: &[u8], work: &mut [u8], child: ReadAnchor) -> CompactionReport
     requires { ⌜ Installed (now s) × (store-size (store-of (now s) .config .capacity) ≤ length (now work)) ⌝ }
     ensures { λ r. ⌜ Sealed r (now (work .exit)) (now (work .entry)) (store-of (now (s .entry)) .config) child (generation-of (now (s .entry)) .top) (advance.compact (store-of (now (s .entry)) .config .retention) (generation-of (now (s .entry)) .anchor .number) (generation-of (now (s .entry)) .base)) ⌝ }
 {
@@ -229,7 +223,7 @@ fn seal_folded(s: &[u8], work: &mut [u8], child: ReadAnchor) -> CompactionCounts
     let dropped = folded.dropped;
     place_top(s, work, left);
     add_layers(work, left, left + top);
-    CompactionCounts {
+    CompactionReport {
         merged,
         left,
         dropped,
@@ -237,7 +231,7 @@ fn seal_folded(s: &[u8], work: &mut [u8], child: ReadAnchor) -> CompactionCounts
 }
 
 // The start of a carry: the store in the work area has a generation at the child over the parent, whose base is folded if it is due (`compact_base`) and whose top is sealed (`seal`).
-pub fn begin_carried(s: &[u8], work: &mut [u8], child: ReadAnchor) -> CompactionCounts
+pub fn begin_carried(s: &[u8], work: &mut [u8], child: ReadAnchor) -> CompactionReport
     requires { ⌜ Installed (now s) × (store-size (store-of (now s) .config .capacity) ≤ length (now work)) ⌝ }
     ensures { λ r. ⌜ Sealed r (now (work .exit)) (now (work .entry)) (store-of (now (s .entry)) .config) child (generation-of (now (s .entry)) .top) (compacted (store-of (now (s .entry)) .config) (generation-of (now (s .entry)))) ⌝ }
 {
@@ -246,7 +240,7 @@ pub fn begin_carried(s: &[u8], work: &mut [u8], child: ReadAnchor) -> Compaction
         return seal_folded(s, work, child);
     }
     seal_layers(s, work, child);
-    CompactionCounts {
+    CompactionReport {
         merged: 0,
         left: 0,
         dropped: 0,

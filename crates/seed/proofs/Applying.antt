@@ -10,14 +10,16 @@ use lib.Seq.{drop-at}
 use borrow.Author.Tests.{le-leb, leb-true, le-ltb}
 use Rattle.model.specs.declared.delta_snapshot.Slot.{Slot}
 use Rattle.model.specs.Numbers.{Bytes}
-use Rattle.model.specs.Slots.{Value}
-use Rattle.model.specs.Layers.{Content, valued, Layer, insert, record-count}
+use Rattle.model.specs.Slots.{Value, u256-fits}
+use Rattle.model.specs.declared.delta_snapshot.Content.{Content}
+use Rattle.model.specs.Contents.{valued}
+use Rattle.model.specs.Layers.{Layer, insert, record-count}
 use Rattle.model.specs.Advance.{WriteKind, overwrite, apply-write, relevant}
 use Rattle.model.specs.Entries.{addresses-of}
 use Rattle.model.specs.Store.{Config, Generation, Store, chain, with-top}
 use Rattle.model.specs.Refusals.{store-size}
 use Rattle.model.proofs.SlotLaws.{and-left, and-right, and-intro}
-use Rattle.image.specs.WellFormed.{u256-fits, slot-fits, config-ok, generation-ok, installed-ok, well-formed}
+use Rattle.image.specs.WellFormed.{slot-fits, config-ok, generation-ok, installed-ok, well-formed}
 use Rattle.image.specs.Image.{image, decode, overlay}
 use Rattle.image.specs.Lent.{store-of, generation-of, Installed}
 use Rattle.image.proofs.RecordsOk.{top-ok-apply-write}

@@ -5,19 +5,16 @@ use mathlib.Core.List.{List}
 use mathlib.Core.Option.{Option}
 use Prim.Native.Nat.{ℕ}
 use lib.ListN.{length}
-use Rattle.model.specs.declared.storage_memo.U256.{U256}
 use Rattle.model.specs.declared.delta_snapshot.Slot.{Slot}
 use Rattle.model.specs.declared.delta_snapshot.Retention.{Retention}
 use Rattle.model.specs.Slots.{LastUse, serves}
-use Rattle.model.specs.Layers.{Content, Layer, freshest-use}
+use Rattle.model.specs.Layers.{Layer, freshest-use}
 use Rattle.model.specs.Advance.{WriteKind, overwrite, new, skip, unserved-kind, write-kind, final-write-kind}
 use Rattle.image.specs.Area.{layers-below}
 use Rattle.image.proofs.Areas.{below-all}
 use Rattle.layers.specs.declared.Use.{Use}
 use Rattle.layers.specs.declared.Use.the-variants.{None, At}
-use Rattle.layers.specs.declared.Entry.{Entry}
-use Rattle.layers.specs.declared.Entry.the-variants.{Absent, Used, Valued}
-use Rattle.layers.specs.Answers.{use-option, entry-content}
+use Rattle.layers.specs.Answers.{use-option}
 
 -- A slot that is not served, by the answer t of the search of the list.
 pub is-new : (t j : Bool) → t ≡ j → t ≡ true → new ≡ unserved-kind j
@@ -48,16 +45,13 @@ module _ (R : Retention) (n : ℕ) (j : Bool) (b : List Layer) (s : Slot) (used 
     pub kind-stale : (w : WriteKind) → t ≡ false → w ≡ unserved-kind j → w ≡ write-kind R n j (freshest-use s b)
     kind-stale w e h = h ∙ ap (λ (x : Bool). cond x (overwrite u) (unserved-kind j)) (sym e) ∙ tested
 
--- Of the slot's record in the top.
-module _ (R : Retention) (n : ℕ) (j : Bool) (f : Option LastUse) (e : Entry) (o : Option Content) (own : entry-content e ≡ o) where
-  known-entry : (x : Entry) → e ≡ x → final-write-kind R n j (entry-content x) f ≡ final-write-kind R n j o f
-  known-entry x p = ap (λ (y : Entry). final-write-kind R n j (entry-content y) f) (sym p) ∙ ap (λ (y : Option Content). final-write-kind R n j y f) own
+-- Of the last use of the slot's record in the top, if it has a value.
+module _ (R : Retention) (n : ℕ) (j : Bool) (f : Option LastUse) (written : Use) (o : Option LastUse) (own : use-option written ≡ o) where
+  known-own : (x : Use) → written ≡ x → final-write-kind R n j (use-option x) f ≡ final-write-kind R n j o f
+  known-own x p = ap (λ (y : Option LastUse). final-write-kind R n j y f) (ap use-option (sym p) ∙ own)
 
-  pub kind-absent : (w : WriteKind) → e ≡ Absent → w ≡ write-kind R n j f → w ≡ final-write-kind R n j o f
-  kind-absent w p h = h ∙ known-entry Absent p
+  pub kind-unwritten : (w : WriteKind) → written ≡ None → w ≡ write-kind R n j f → w ≡ final-write-kind R n j o f
+  kind-unwritten w p h = h ∙ known-own None p
 
-  pub kind-used : (w : WriteKind) (u : ℕ) → e ≡ Used u → w ≡ write-kind R n j f → w ≡ final-write-kind R n j o f
-  kind-used w u p h = h ∙ known-entry (Used u) p
-
-  pub kind-valued : (u : ℕ) (v : U256) → e ≡ Valued u v → overwrite u ≡ final-write-kind R n j o f
-  kind-valued u v p = known-entry (Valued u v) p
+  pub kind-written : (u : ℕ) → written ≡ At u → overwrite u ≡ final-write-kind R n j o f
+  kind-written u p = known-own (At u) p

@@ -2,7 +2,7 @@
 use mathlib.Core.Path.{_≡_, refl, sym, ap, subst, _∙_}
 use mathlib.Core.Bool.{Bool, true, false, _||_}
 use mathlib.Core.List.{List, [], _∷_}
-use Prim.Native.Nat.{ℕ, zero, suc, _+_, _*_, _/_, _≤_, _<_}
+use Prim.Native.Nat.{ℕ, zero, suc, _+_, _/_, _≤_, _<_}
 use native.Mathlib.Numerals.{add-one}
 use native.Mathlib.Omega.{arith}
 use lib.Dec.{eqb, ltb}
@@ -10,7 +10,7 @@ use lib.ListN.{length, drop, getD, set}
 use lib.Seq.{getD-set-same, getD-set-other}
 use borrow.Author.Tests.{eq-eqb, ne-eqb, eqb-true, eqb-false, le-ltb, ltb-true, ltb-false}
 use Rattle.model.specs.declared.storage_memo.Address.{Address}
-use Rattle.model.specs.Slots.{address-words, words-eqb, words-ltb, address-eqb}
+use Rattle.model.specs.Slots.{address-words, words-ltb, address-eqb}
 use Rattle.model.specs.Advance.{relevant}
 use Rattle.model.specs.Entries.{addresses-of}
 use Rattle.model.proofs.SlotLaws.{split, not-both, and-false, or-right, words-eqb-true, words-ltb-irrefl, words-ltb-total, words-ltb-trans}

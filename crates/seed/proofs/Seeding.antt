@@ -14,7 +14,9 @@ use Rattle.model.specs.declared.delta_snapshot.Slot.{Slot}
 use Rattle.model.specs.declared.delta_snapshot.Retention.{Retention}
 use Rattle.model.specs.Numbers.{Bytes}
 use Rattle.model.specs.Slots.{Value}
-use Rattle.model.specs.Layers.{Content, valued, Layer, find, freshest-use, insert, record-count}
+use Rattle.model.specs.declared.delta_snapshot.Content.{Content}
+use Rattle.model.specs.Contents.{valued-use, valued}
+use Rattle.model.specs.Layers.{Layer, find, freshest-use, insert, record-count}
 use Rattle.model.specs.Advance.{WriteKind, overwrite, new, skip, relevant, final-write-kind, apply-write, Write, AppliedWrites, count-write, SeededTop, seed-final-writes}
 use Rattle.model.specs.Entries.{write-of, addresses-of, writes-of}
 use Rattle.model.specs.Store.{Config, Generation, Store, chain, with-top}
@@ -33,7 +35,7 @@ use Rattle.header.proofs.Images.{store-split}
 use Rattle.seed.specs.declared.WriteKind.{WriteKind as Kind}
 use Rattle.seed.specs.declared.Applied.{Applied}
 use Rattle.seed.specs.declared.Applied.the-variants.{Full, Done}
-use Rattle.seed.specs.declared.WriteCounts.{WriteCounts}
+use Rattle.replies.specs.declared.WriteCounts.{WriteCounts}
 use Rattle.seed.specs.Writes.{kind-of, has-room-for, kind-in, top-after, Wrote, count-one, seeded-over, seeded-in, SeededTo}
 use Rattle.seed.proofs.Entries.{write-at, writes-end}
 use Rattle.seed.proofs.Applying.{Again, wrote-full, wrote-done, wrote-again}
@@ -57,7 +59,7 @@ unfolding seed-final-writes
 seed-grows R n relevance b [] l = omega arith
 seed-grows R n relevance b (w ∷ ws) l =
     let s : Slot = w .slot in
-    let k : WriteKind = final-write-kind R n (relevant relevance (s .address)) (find s l) (freshest-use s b) in
+    let k : WriteKind = final-write-kind R n (relevant relevance (s .address)) (valued-use (find s l)) (freshest-use s b) in
     omega (arith, write-grows n k s (w .value) l, seed-grows R n relevance b ws (apply-write n k s (w .value) l))
 
 -- The counts ------------------------------------------------------------------------------------------
@@ -112,7 +114,7 @@ along-start b addresses writes f h =
 
 -- What a write does to what is left to do.
 seeded-cons : (cfg : Config) (g : Generation) (relevance : List Address) (w : Write) (ws : List Write) →
-    let k : WriteKind = final-write-kind (cfg .retention) (g .anchor .number) (relevant relevance (w .slot .address)) (find (w .slot) (g .top)) (freshest-use (w .slot) (g .base)) in
+    let k : WriteKind = final-write-kind (cfg .retention) (g .anchor .number) (relevant relevance (w .slot .address)) (valued-use (find (w .slot) (g .top))) (freshest-use (w .slot) (g .base)) in
     let z : SeededTop = seeded-over cfg (with-top g (apply-write (g .anchor .number) k (w .slot) (w .value) (g .top))) relevance ws in
     seeded-over cfg g relevance (w ∷ ws) ≡ record { top = z .top; applied-writes = count-write k (w .slot) (z .applied-writes) }
 unfolding seed-final-writes

@@ -8,6 +8,7 @@ use lib.Dec.{leb}
 use lib.ListN.{length}
 use Rattle.model.specs.declared.delta_snapshot.Slot.{Slot}
 use Rattle.model.specs.Slots.{Value}
+use Rattle.model.specs.Contents.{valued-use}
 use Rattle.model.specs.Layers.{Layer, find, freshest-use, record-count}
 use Rattle.model.specs.Advance.{WriteKind, overwrite, new, skip, relevant, final-write-kind, apply-write, Write, AppliedWrites, SeededTop, seed-final-writes}
 use Rattle.model.specs.Entries.{addresses-of, writes-of}
@@ -20,7 +21,7 @@ use Rattle.seed.specs.declared.WriteKind.{WriteKind as Kind}
 use Rattle.seed.specs.declared.WriteKind.the-variants.{Overwrite, New, Skip}
 use Rattle.seed.specs.declared.Applied.{Applied}
 use Rattle.seed.specs.declared.Applied.the-variants.{Full, Done}
-use Rattle.seed.specs.declared.WriteCounts.{WriteCounts}
+use Rattle.replies.specs.declared.WriteCounts.{WriteCounts}
 use Rattle.seed.specs.declared.Seeded.{Seeded}
 use Rattle.seed.specs.declared.Seeded.the-variants.{Full as No-room, Done as Counts}
 
@@ -45,7 +46,7 @@ has-room-for t b = leb (record-count (t ∷ generation-of b .base)) (store-of b 
 -- What a write to a slot does in a store, with the addresses that are relevant.
 abbrev pub kind-in : List ℕ → List ℕ → Slot → WriteKind
 kind-in b addresses s =
-    final-write-kind (store-of b .config .retention) (generation-of b .anchor .number) (relevant (addresses-of addresses) (s .address)) (find s (generation-of b .top)) (freshest-use s (generation-of b .base))
+    final-write-kind (store-of b .config .retention) (generation-of b .anchor .number) (relevant (addresses-of addresses) (s .address)) (valued-use (find s (generation-of b .top))) (freshest-use s (generation-of b .base))
 
 -- The top after it.
 abbrev pub top-after : List ℕ → List ℕ → Slot → Value → Layer

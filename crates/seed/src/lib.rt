@@ -1,15 +1,18 @@
 // The writes of an advance, applied to the top of a store.
-use layers::Entry;
 use layers::Use;
+use model::delta_snapshot::Content;
+use model::delta_snapshot::Held;
 use model::delta_snapshot::Slot;
 use model::storage_memo::Address;
 use model::storage_memo::U256;
+use replies::WriteCounts;
 ghost use mathlib.Core.Path.{_≡_};
 ghost use mathlib.Core.Bool.{true, cond};
 ghost use mathlib.Core.Option.{some, none};
 ghost use Prim.Native.Nat.{_+_, _*_, _/_, _^_, _≤_, _<_};
 ghost use lib.ListN.{length, drop};
-ghost use Rattle.model.specs.Layers.{find, freshest-use, insert, valued};
+ghost use Rattle.model.specs.Contents.{valued-use};
+ghost use Rattle.model.specs.Layers.{find, freshest-use, insert};
 ghost use Rattle.model.specs.Advance.{relevant, unserved-kind, write-kind, final-write-kind};
 ghost use Rattle.model.specs.Entries.{u256-at, address-of, slot-of, addresses-of};
 ghost use Rattle.image.specs.Lent.{store-of, generation-of, Installed};
@@ -27,13 +30,6 @@ pub enum WriteKind {
 pub enum Applied {
     Full,
     Done(WriteKind),
-}
-
-// How many writes were applied, how many of them overwrote, and how many were skipped.
-pub struct WriteCounts {
-    pub applied: u64,
-    pub overwritten: u64,
-    pub skipped: u64,
 }
 
 // What the writes of a list came to: no room for the records that they leave, or their counts.
@@ -209,25 +205,24 @@ fn base_kind(s: &[u8], addresses: &[u8], table: &[u16], rise: bool, slot: Slot) 
 // What a write does: a slot that the top has a value of was written earlier, and its use is kept.
 fn kind(s: &[u8], addresses: &[u8], table: &[u16], rise: bool, slot: Slot) -> WriteKind
     requires { ⌜ Installed (now s) × Indexed rise (now table) (now addresses) ⌝ }
-    ensures { λ r. ⌜ kind-of r ≡ final-write-kind (store-of (now (s .entry)) .config .retention) (generation-of (now (s .entry)) .anchor .number) (relevant (addresses-of (now (addresses .entry))) (slot .address)) (find slot (generation-of (now (s .entry)) .top)) (freshest-use slot (generation-of (now (s .entry)) .base)) ⌝ }
+    ensures { λ r. ⌜ kind-of r ≡ final-write-kind (store-of (now (s .entry)) .config .retention) (generation-of (now (s .entry)) .anchor .number) (relevant (addresses-of (now (addresses .entry))) (slot .address)) (valued-use (find slot (generation-of (now (s .entry)) .top))) (freshest-use slot (generation-of (now (s .entry)) .base)) ⌝ }
 {
-    match layers::top_entry(s, slot) {
-        Entry::Absent => base_kind(s, addresses, table, rise, slot),
-        Entry::Used(_) => base_kind(s, addresses, table, rise, slot),
-        Entry::Valued(u, _) => WriteKind::Overwrite(u),
+    match layers::top_valued_use(s, slot) {
+        Use::None => base_kind(s, addresses, table, rise, slot),
+        Use::At(u) => WriteKind::Overwrite(u),
     }
 }
 
-// Sets a slot's record in the top to a value and a last use if there is room for it; whether there is.
-fn settle_if_room(s: &mut [u8], slot: Slot, value: U256, used: u64) -> bool
+// Sets a slot's record in the top to a content if there is room for it; whether there is.
+fn set_if_room(s: &mut [u8], slot: Slot, c: Content) -> bool
     requires { ⌜ Installed (now s) ⌝ }
-    ensures { λ r. ⌜ Settled r (now (s .exit)) (insert slot (valued used value) (generation-of (now (s .entry)) .top)) (now (s .entry)) ⌝ }
+    ensures { λ r. ⌜ Settled r (now (s .exit)) (insert slot c (generation-of (now (s .entry)) .top)) (now (s .entry)) ⌝ }
 {
     let place = top::top_place(s, slot);
     if !top::has_room(s, place) {
         return false;
     }
-    top::settle_used(s, place, slot, value, used);
+    top::set_top(s, place, slot, c);
     true
 }
 
@@ -257,12 +252,19 @@ fn apply(
     let what = kind(s, addresses, table, rise, slot);
     match what {
         WriteKind::Overwrite(u) => {
-            let room = settle_if_room(s, slot, value, u);
+            let c = Content {
+                used: u,
+                held: Held::Value(value),
+            };
+            let room = set_if_room(s, slot, c);
             answer(room, what)
         }
         WriteKind::New => {
-            let number = layers::installed_number(s);
-            let room = settle_if_room(s, slot, value, number);
+            let c = Content {
+                used: layers::installed_number(s),
+                held: Held::Value(value),
+            };
+            let room = set_if_room(s, slot, c);
             answer(room, what)
         }
         WriteKind::Skip => Applied::Done(what),

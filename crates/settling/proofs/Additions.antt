@@ -8,7 +8,9 @@ use native.Mathlib.Omega.{arith}
 use lib.ListN.{length}
 use Rattle.model.specs.declared.delta_snapshot.Slot.{Slot}
 use Rattle.model.specs.Slots.{Value, slot-eqb, mem}
-use Rattle.model.specs.Layers.{Content, valued, Layer, find, insert, is-some}
+use Rattle.model.specs.declared.delta_snapshot.Content.{Content}
+use Rattle.model.specs.Contents.{valued, is-some}
+use Rattle.model.specs.Layers.{Layer, find, insert}
 use Rattle.model.specs.Reads.{Member, has-duplicate, member-slots, settle-outcome, settle-members}
 use Rattle.model.proofs.SlotLaws.{or-false-left, or-false-right, slot-eqb-sym}
 use Rattle.model.proofs.LayerLaws.{find-insert}

@@ -13,7 +13,8 @@ use lib.Seq.{drop-drop, getD-drop, getD-take}
 use borrow.Author.Tests.{eq-eqb, ne-eqb}
 use Rattle.model.specs.declared.delta_snapshot.Slot.{Slot}
 use Rattle.model.specs.Slots.{Value}
-use Rattle.model.specs.Layers.{Layer, find, is-some}
+use Rattle.model.specs.Contents.{is-some}
+use Rattle.model.specs.Layers.{Layer, find}
 use Rattle.model.specs.Reads.{Member, settle-outcome, settle-members}
 use Rattle.model.specs.Entries.{slot-of, u256-at, member-of, chunks, members-of}
 use Rattle.entries.proofs.Numbers.{u256-in, u256-take, slot-take}

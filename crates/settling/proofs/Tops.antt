@@ -1,11 +1,10 @@
 -- A store with another top is a store: no change, a value put, and one change after another.
 use Prim.Native.Nat.{ℕ, _+_, _-_, _≤_, _<_}
 use mathlib.Core.Path.{_≡_, refl, sym, ap, ap₂, subst, _∙_}
-use mathlib.Core.Bool.{Bool, true, false, cond}
-use mathlib.Core.List.{List, [], _∷_, _++_}
+use mathlib.Core.Bool.{Bool, true, cond}
+use mathlib.Core.List.{List, _∷_, _++_}
 use mathlib.Core.Option.{Option, some, none}
 use native.Mathlib.Omega.{arith}
-use lib.Dec.{ltb}
 use lib.ListN.{length, drop}
 use lib.Seq.{drop-at}
 use borrow.Author.Tests.{eq-eqb, le-ltb}
@@ -13,20 +12,21 @@ use Rattle.model.specs.declared.delta_snapshot.Slot.{Slot}
 use Rattle.model.specs.declared.storage_memo.BlockHash.{BlockHash}
 use Rattle.model.specs.declared.storage_memo.BlockHash.the-variants.{Unknown, Known}
 use Rattle.model.specs.declared.storage_memo.ReadAnchor.{ReadAnchor}
-use Rattle.model.specs.Slots.{Value, u256-words, u256-eqb, hash-eqb, anchor-eqb}
+use Rattle.model.specs.Slots.{Value, u256-words, u256-eqb, hash-eqb, anchor-eqb, u256-fits}
 use Rattle.model.specs.Numbers.{Bytes}
-use Rattle.model.specs.Layers.{Layer, record-count, settle, valued}
-use Rattle.model.specs.Store.{Config, Generation, Store, put, on-store, at-anchor, Memory, Accepted, accept, chain, with-top}
+use Rattle.model.specs.Layers.{Layer, record-count, settle}
+use Rattle.model.specs.Store.{Config, Generation, Store, put, on-slot, on-store, at-anchor, Memory, Accepted, chain, with-top}
+use Rattle.model.specs.Contents.{valued}
 use Rattle.model.specs.Refusals.{LentCall, conclude, step, refusal, store-size}
 use Rattle.model.proofs.SlotLaws.{and-intro, words-eqb-refl}
-use Rattle.image.specs.WellFormed.{u256-fits, slot-fits, well-formed}
+use Rattle.image.specs.WellFormed.{slot-fits, well-formed}
 use Rattle.image.specs.Claims.{memory-ok}
 use Rattle.image.specs.Image.{image, decode, overlay, lent-call}
 use Rattle.image.specs.Lent.{store-of, generation-of, Installed}
 use Rattle.image.proofs.ReadBack.{decode-some, decode-image, length-image}
-use Rattle.image.proofs.Lent.{store-is, decoded, installed, generation-is}
+use Rattle.image.proofs.Lent.{store-is, installed, generation-is}
 use Rattle.image.proofs.Closure.{closure}
-use Rattle.unchecked_calls.specs.Answers.{alone}
+use Rattle.replies.specs.Replies.{alone}
 use Rattle.top.specs.Top.{topped}
 use Rattle.header.proofs.Images.{store-split}
 use Rattle.unchecked_calls.proofs.Turned.{plain-put, memory-of, this-there, put-accepted, over-by}
@@ -89,7 +89,7 @@ module _ (b : List ℕ) (h : Installed b) (s : Slot) (v : Value) (fs : slot-fits
   unfolding step
   put-right room =
       let m : Memory = memory-of cfg (some g) in
-      let c : LentCall = lent-call (length b) (alone (on-store (at-anchor (g .anchor) (put s v)))) in
+      let c : LentCall = lent-call (length b) (alone (on-store (at-anchor (g .anchor) (on-slot (put s v))))) in
       let a = put-accepted cfg g (g .anchor) s v in
       let r : refusal m (c .lent) (c .call) ≡ none =
       this-there cfg g (c .lent) (g .anchor) (plain-put s v) (anchor-same (g .anchor))

@@ -5,12 +5,13 @@ use mathlib.Core.Bool.{cond}
 use mathlib.Core.List.{List, [], _∷_}
 use mathlib.Core.Option.{Option, some, none}
 use lib.Dec.{eqb}
-use lib.ListN.{drop, getD}
+use lib.ListN.{getD}
 use Rattle.model.specs.declared.delta_snapshot.Slot.{Slot}
 use Rattle.model.specs.Slots.{Value}
-use Rattle.model.specs.Layers.{Layer, find, is-some}
+use Rattle.model.specs.Contents.{is-some}
+use Rattle.model.specs.Layers.{Layer, find}
 use Rattle.model.specs.Reads.{Member}
-use Rattle.model.specs.Entries.{slot-of, u256-at}
+use Rattle.model.specs.Entries.{u256-at}
 use Rattle.model.specs.Store.{with-top}
 use Rattle.image.specs.Image.{overlay}
 use Rattle.image.specs.Lent.{store-of, generation-of, Installed as HasGeneration}

@@ -7,16 +7,14 @@ use mathlib.Core.Option.{some, none}
 use native.Mathlib.Omega.{arith}
 use borrow.Author.Tests.{not-true, not-false}
 use Rattle.model.specs.declared.storage_memo.ReadAnchor.{ReadAnchor}
-use Rattle.model.specs.Layers.{is-some}
+use Rattle.model.specs.Contents.{is-some}
 use Rattle.model.specs.Entries.{members-of, flags-known}
 use Rattle.model.specs.Store.{Memory, StoreCall, on-store, at-anchor, answer}
 use Rattle.model.specs.Refusals.{refuse}
 use Rattle.image.specs.Image.{decode, BytesCall, BytesResult, bytes-step}
-use Rattle.unchecked_calls.specs.Answers.{alone}
+use Rattle.replies.specs.Replies.{alone, answer-step, AdvancedAs}
 use Rattle.unchecked_calls.proofs.Turned.{no-store}
-use Rattle.unchecked_advance.specs.declared.Advanced.the-variants.{No}
-use Rattle.unchecked_advance.specs.Reports.{AdvancedAs}
-use Rattle.unchecked_reads.specs.Answers.{answer-step}
+use Rattle.replies.specs.declared.AdvanceReply.the-variants.{Refused}
 use Rattle.unchecked_reads.proofs.Said.{turned-down}
 
 no-memory : (m : Memory) → is-some m ≡ false → m ≡ none
@@ -37,8 +35,8 @@ module _ (b : List ℕ) (r : Bool) (e : r ≡ is-some (decode b)) where
     refused-20 = turned-down b none lent (no-memory (decode b) (sym e ∙ not-true r t)) 20 (no-store _ c)
 
 -- What an advance's contract names: a refusal.
-pub advanced-none : {b out : List ℕ} {n : ℕ} {o : BytesResult} → o ≡ record { bytes = b; answer = refuse n } → AdvancedAs (No n) b out o out
-advanced-none {b} {out} {n} q = subst (λ (x : BytesResult). AdvancedAs (No n) b out x out) (sym q) (record { answer-is = refl; bytes-is = refl; output-is = refl })
+pub advanced-none : {b out : List ℕ} {n : ℕ} {o : BytesResult} → o ≡ record { bytes = b; answer = refuse n } → AdvancedAs (Refused n) b out o out
+advanced-none {b} {out} {n} q = subst (λ (x : BytesResult). AdvancedAs (Refused n) b out x out) (sym q) (record { answer-is = refl; bytes-is = refl; output-is = refl })
 
 -- An answer with an unknown flag byte, and one whose flag bytes are known.
 module _ (b : List ℕ) (a : ReadAnchor) (m : List ℕ) (r : Bool) (e : r ≡ flags-known m) where

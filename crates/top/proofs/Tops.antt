@@ -9,8 +9,9 @@ use borrow.Rule.Slice.PartMut.{putMid}
 use Rattle.layout.specs.Layout.{record-size, records-count-offset, records-offset}
 use Rattle.model.specs.declared.delta_snapshot.Slot.{Slot}
 use Rattle.model.specs.Numbers.{be, Bytes}
-use Rattle.model.specs.Slots.{Value}
-use Rattle.model.specs.Layers.{Content, Layer, find, record-count, insert, touch, settle, valued}
+use Rattle.model.specs.declared.delta_snapshot.Content.{Content}
+use Rattle.model.specs.Contents.{touch}
+use Rattle.model.specs.Layers.{Layer, find, record-count, insert}
 use Rattle.model.specs.Store.{Generation, chain, touched-top}
 use Rattle.words.specs.Parts.{placed}
 use Rattle.image.specs.WellFormed.{rising}

@@ -1,10 +1,12 @@
 // The top's records: the place of a slot, room for a record, and a record set.
+use model::delta_snapshot::Content;
+use model::delta_snapshot::Held;
 use model::delta_snapshot::Slot;
 use model::storage_memo::U256;
 use records::Found;
 ghost use mathlib.Core.Path.{_≡_};
 ghost use lib.Dec.{leb};
-ghost use Rattle.model.specs.Layers.{record-count, insert, valued, settle};
+ghost use Rattle.model.specs.Layers.{record-count, insert, settle};
 ghost use Rattle.model.specs.Store.{chain, touched-top};
 ghost use Rattle.image.specs.Image.{overlay};
 ghost use Rattle.image.specs.Lent.{store-of, generation-of, Installed};
@@ -46,15 +48,15 @@ pub fn touch_top(s: &mut [u8], place: Found, slot: Slot)
     words::write_u64(s, layout::RECORDS_COUNT_OFFSET, (start + count) as u64);
 }
 
-// Sets a slot's record in the top to a value and a last use.
-pub fn settle_used(s: &mut [u8], place: Found, slot: Slot, value: U256, used: u64)
+// Sets a slot's record in the top to a content.
+pub fn set_top(s: &mut [u8], place: Found, slot: Slot, c: Content)
     requires { ⌜ Placed place slot (now s) ⌝ }
-    ensures { λ _. ⌜ now (s .exit) ≡ overlay (topped (store-of (now (s .entry)) .config) (generation-of (now (s .entry))) (insert slot (valued used value) (generation-of (now (s .entry)) .top))) (now (s .entry)) ⌝ }
+    ensures { λ _. ⌜ now (s .exit) ≡ overlay (topped (store-of (now (s .entry)) .config) (generation-of (now (s .entry))) (insert slot c (generation-of (now (s .entry)) .top))) (now (s .entry)) ⌝ }
 {
     let n = layers::top_count(s);
     let start = layers::top_start(s);
     let at = layout::RECORDS_OFFSET + layout::RECORD_SIZE * start;
-    let total = records::settle(&mut s[at..], n, place, slot, value, used);
+    let total = records::set(&mut s[at..], n, place, slot, c);
     words::write_u64(s, layout::RECORDS_COUNT_OFFSET, (start + total) as u64);
 }
 
@@ -63,6 +65,9 @@ pub fn settle_top(s: &mut [u8], place: Found, slot: Slot, value: U256)
     requires { ⌜ Placed place slot (now s) ⌝ }
     ensures { λ _. ⌜ now (s .exit) ≡ overlay (topped (store-of (now (s .entry)) .config) (generation-of (now (s .entry))) (settle (generation-of (now (s .entry)) .anchor .number) slot value (generation-of (now (s .entry)) .top))) (now (s .entry)) ⌝ }
 {
-    let number = layers::installed_number(s);
-    settle_used(s, place, slot, value, number);
+    let c = Content {
+        used: layers::installed_number(s),
+        held: Held::Value(value),
+    };
+    set_top(s, place, slot, c);
 }

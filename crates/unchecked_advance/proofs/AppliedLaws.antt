@@ -1,6 +1,6 @@
 -- The applied writes of a list are those whose slot has a record in the top that the list leaves. Assumes nothing.
 use Prim.Native.Nat.{ℕ}
-use mathlib.Core.Path.{_≡_, refl, sym, ap, ap₂, subst, _∙_}
+use mathlib.Core.Path.{_≡_, refl, sym, ap, _∙_}
 use mathlib.Core.Bool.{Bool, true, false, cond, true≢false}
 use mathlib.Core.List.{List, [], _∷_}
 use mathlib.Core.Option.{Option, some, none}
@@ -10,18 +10,19 @@ use Rattle.model.specs.declared.delta_snapshot.Slot.{Slot}
 use Rattle.model.specs.declared.delta_snapshot.Retention.{Retention}
 use Rattle.model.specs.declared.storage_memo.Address.{Address}
 use Rattle.model.specs.Slots.{Value, LastUse, slot-eqb}
-use Rattle.model.specs.Layers.{Content, use-only, valued, Layer, find, insert, is-some, freshest-use}
+use Rattle.model.specs.declared.delta_snapshot.Content.{Content}
+use Rattle.model.specs.Contents.{valued, is-some, use-of, has-value, valued-use}
+use Rattle.model.specs.Layers.{Layer, find, insert, freshest-use}
 use Rattle.model.specs.Advance.{Write, WriteKind, overwrite, new, skip, relevant, write-kind, final-write-kind, apply-write, count-write, SeededTop, seed-final-writes}
 use Rattle.model.specs.Entries.{slots-bytes, with-slots}
-use Rattle.model.proofs.SlotLaws.{split, not-both, slot-eqb-true, slot-eqb-refl}
+use Rattle.model.proofs.SlotLaws.{split, slot-eqb-true, slot-eqb-refl}
 use Rattle.model.proofs.LayerLaws.{find-insert}
 use Rattle.unchecked_advance.specs.Outputs.{applied-in}
 
 -- No record without a value.
 abbrev plain : Option Content → Bool
 plain none = true
-plain (some (use-only u)) = false
-plain (some (valued u v)) = true
+plain (some c) = has-value c
 
 abbrev is-skip : WriteKind → Bool
 is-skip (overwrite u) = false
@@ -54,13 +55,12 @@ plain-write n skip t v l h s = h s
 
 -- What a skipped write says of its slot's record.
 module _ (R : Retention) (n : ℕ) (j : Bool) (f : Option LastUse) where
-  skipped-none : (o : Option Content) → plain o ≡ true → final-write-kind R n j o f ≡ skip → o ≡ none
+  skipped-none : (o : Option Content) → plain o ≡ true → final-write-kind R n j (valued-use o) f ≡ skip → o ≡ none
   skipped-none none p e = refl
-  skipped-none (some (use-only u)) p e = absurd (true≢false (sym p))
-  skipped-none (some (valued u v)) p e = absurd (true≢false (sym (ap is-skip e)))
+  skipped-none (some c) p e = let q : overwrite (use-of c) ≡ skip = rw p at e in absurd (true≢false (sym (ap is-skip q)))
 
-  skipped-kind : (o : Option Content) → o ≡ none → final-write-kind R n j o f ≡ write-kind R n j f
-  skipped-kind o e = ap (λ (x : Option Content). final-write-kind R n j x f) e
+  skipped-kind : (o : Option Content) → o ≡ none → final-write-kind R n j (valued-use o) f ≡ write-kind R n j f
+  skipped-kind o e = ap (λ (x : Option Content). final-write-kind R n j (valued-use x) f) e
 
 module _ (R : Retention) (n : ℕ) (relevance : List Address) (b : List Layer) where
   -- What a write to a slot does without a record in the top, and with the top l.
@@ -68,7 +68,7 @@ module _ (R : Retention) (n : ℕ) (relevance : List Address) (b : List Layer) w
   first-kind s = write-kind R n (relevant relevance (s .address)) (freshest-use s b)
 
   abbrev kind-on : Layer → Slot → WriteKind
-  kind-on l s = final-write-kind R n (relevant relevance (s .address)) (find s l) (freshest-use s b)
+  kind-on l s = final-write-kind R n (relevant relevance (s .address)) (valued-use (find s l)) (freshest-use s b)
 
   abbrev run : List Write → Layer → SeededTop
   run ws l = seed-final-writes R n relevance b ws l

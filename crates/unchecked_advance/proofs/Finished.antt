@@ -2,10 +2,10 @@
 use Prim.Native.Nat.{ℕ, _+_, _*_, _≤_, _<_}
 use mathlib.Core.Path.{_≡_, refl, sym, ap, ap₂, subst, _∙_}
 use mathlib.Core.Bool.{Bool, true, false, cond}
-use mathlib.Core.List.{List, [], _∷_, _++_}
-use mathlib.Core.Option.{Option, some, none}
+use mathlib.Core.List.{List, _∷_, _++_}
+use mathlib.Core.Option.{Option, some}
 use native.Mathlib.Omega.{arith}
-use lib.Dec.{leb, ltb}
+use lib.Dec.{ltb}
 use lib.ListN.{length, take, drop}
 use borrow.Author.Tests.{lt-ltb, le-ltb, leb-true, leb-false}
 use Rattle.layout.specs.Layout.{capacity-offset, record-size, records-offset}
@@ -20,20 +20,19 @@ use Rattle.model.specs.Refusals.{refuse, ok}
 use Rattle.model.proofs.EntryLaws.{SlotFits, Each, slots-back}
 use Rattle.words.specs.Parts.{part, placed}
 use Rattle.image.specs.Image.{image, decode, overlay, BytesResult}
-use Rattle.image.specs.Lent.{store-of, generation-of, IsStore, Installed}
+use Rattle.image.specs.Lent.{store-of, generation-of}
 use Rattle.image.proofs.ReadBack.{decode-some, length-image, image-reads-back}
 use Rattle.image.proofs.Lent.{store-in}
 use Rattle.counts.specs.declared.Counts.{Counts}
-use Rattle.seal.specs.declared.CompactionCounts.{CompactionCounts}
-use Rattle.seal.specs.Report.{report-of}
-use Rattle.seed.specs.declared.WriteCounts.{WriteCounts}
+use Rattle.model.specs.declared.delta_snapshot.CompactionReport.{CompactionReport}
+use Rattle.replies.specs.declared.WriteCounts.{WriteCounts}
 use Rattle.seed.specs.declared.Seeded.{Seeded}
 use Rattle.seed.specs.declared.Seeded.the-variants.{Full as No-room, Done as Counted}
 use Rattle.seed.specs.Writes.{has-room-for, seeded-in, SeededTo, SeededAs}
-use Rattle.unchecked_advance.specs.declared.Advanced.the-variants.{No, Done}
+use Rattle.replies.specs.declared.AdvanceReply.the-variants.{Refused, Advanced}
 use Rattle.unchecked_advance.specs.Outputs.{applied-in}
-use Rattle.unchecked_advance.specs.Reports.{AdvancedAs}
-use Rattle.unchecked_advance.specs.Inner.{CountedAs, CountsBefore, too-many, ended, writing, Ready}
+use Rattle.replies.specs.Replies.{AdvancedAs}
+use Rattle.unchecked_advance.specs.Inner.{CountedAs, CountsBefore, ended, writing, Ready}
 use Rattle.unchecked_advance.proofs.AppliedLaws.{applied-is, none-applied}
 use Rattle.unchecked_advance.proofs.Outputs.{applied-fit}
 
@@ -53,12 +52,12 @@ size-in s w w' cap c z h t e =
     let k : store-of w' .config .capacity ≡ store-of s .config .capacity = ap (λ (x : Config). x .capacity) (t .config-is ∙ h .config-is) in
     omega (arith, store-in s (h .is-store) .capacity-word, store-in w' (t .installed .is-store) .long)
 
-module _ (s w addresses writes out : List ℕ) (outcome : CarryOutcome) (c : CompactionCounts) (h : Ready w s) where
+module _ (s w addresses writes out : List ℕ) (outcome : CarryOutcome) (c : CompactionReport) (h : Ready w s) where
   abbrev z : SeededTop
   z = seeded-in w (addresses-of addresses) (writes-of writes)
 
   abbrev p : Performed
-  p = writing w addresses writes outcome (report-of c)
+  p = writing w addresses writes outcome c
 
   abbrev cfg : Config
   cfg = store-of s .config
@@ -72,11 +71,11 @@ module _ (s w addresses writes out : List ℕ) (outcome : CarryOutcome) (c : Com
   abbrev ended-by : Bool → BytesResult
   ended-by x = cond x (record { bytes = s; answer = refuse 23 }) (record { bytes = overlay (some (record { config = cfg; installed = p .installed })) s; answer = ok (p .report) })
 
-  pub finish-full : has-room-for (z .top) w ≡ false → AdvancedAs (No 23) s out (ended cfg p s) out
+  pub finish-full : has-room-for (z .top) w ≡ false → AdvancedAs (Refused 23) s out (ended cfg p s) out
   finish-full e =
       let more : store-of w .config .capacity < record-count (z .top ∷ base) = leb-false _ _ e in
       let over : ltb (cfg .capacity) (record-count (z .top ∷ base)) ≡ true = lt-ltb (cfg .capacity) (record-count (z .top ∷ base)) (omega (arith, capacity-is)) in
-      subst (λ (o : BytesResult). AdvancedAs (No 23) s out o out) (sym (ap ended-by over)) (record { answer-is = refl; bytes-is = refl; output-is = refl })
+      subst (λ (o : BytesResult). AdvancedAs (Refused 23) s out o out) (sym (ap ended-by over)) (record { answer-is = refl; bytes-is = refl; output-is = refl })
 
   module _ (w' : List ℕ) (counts : WriteCounts) (f : Bytes w') (t : SeededTo counts w' w z) where
     abbrev new-one : Generation
@@ -131,7 +130,7 @@ module _ (s w addresses writes out : List ℕ) (outcome : CarryOutcome) (c : Com
 
     pub finish-done : (cap : ℕ) (s' out' : List ℕ) (cc : Counts) → Bytes writes → cap ≡ num (part capacity-offset 8 s) → s' ≡ placed 0 (take (records-offset + record-size * cap) w') s → out' ≡ with-slots (applied-in (generation-of w' .top) (writes-of writes)) out
         → CountedAs cc (store-of w' .config .retention) (generation-of w')
-        → AdvancedAs (Done (record { outcome = outcome; writes = counts; held = cc .held; live = cc .live; compaction = c })) s' out' (ended cfg p s) out
+        → AdvancedAs (Advanced (record { outcome = outcome; writes = counts; held = cc .held; live = cc .live; compaction = c })) s' out' (ended cfg p s) out
     finish-done cap s' out' cc fw e q o k =
         let held : cc .held ≡ held-count (z .top ∷ base) = k .held-is ∙ ap (λ (g : Generation). held-count (chain g)) new-is in
         let live : cc .live ≡ live-count (store-of w .config .retention) (generation-of w .anchor .number) (z .top ∷ base) =
@@ -141,9 +140,9 @@ module _ (s w addresses writes out : List ℕ) (outcome : CarryOutcome) (c : Com
         let ss : first-slots (counts .applied) out' ≡ z .applied-writes .applied = ap₂ first-slots (t .counts-are .applied-is) puts ∙ slots-back out fit in
         let over = t .counts-are .overwritten-is in
         let left = t .counts-are .skipped-is in
-        subst (λ (x : BytesResult). AdvancedAs (Done (record { outcome = outcome; writes = counts; held = cc .held; live = cc .live; compaction = c })) s' out' x out) (sym (ap ended-by room))
+        subst (λ (x : BytesResult). AdvancedAs (Advanced (record { outcome = outcome; writes = counts; held = cc .held; live = cc .live; compaction = c })) s' out' x out) (sym (ap ended-by room))
         (record {
-          answer-is = λ i. ok (advanced (record { outcome = outcome; writes = record { applied = ss i; overwritten = over i; skipped = left i }; held = held i; live = live i; compaction = report-of c }));
+          answer-is = λ i. ok (advanced (record { outcome = outcome; writes = record { applied = ss i; overwritten = over i; skipped = left i }; held = held i; live = live i; compaction = c }));
           bytes-is = copied cap s' e q;
           output-is = puts;
         })

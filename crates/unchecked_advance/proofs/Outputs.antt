@@ -9,22 +9,27 @@ use native.Mathlib.Omega.{arith}
 use lib.ListN.{length, take, drop, length-append, length-drop, take-append-drop}
 use lib.Seq.{take-add, drop-drop, take-at, drop-at, length-take-le}
 use Rattle.model.specs.declared.delta_snapshot.Slot.{Slot}
-use Rattle.model.specs.Numbers.{be, num, Bytes}
-use Rattle.model.specs.Layers.{Content, Layer, find, is-some}
-use Rattle.model.specs.Advance.{Write}
+use Rattle.model.specs.Numbers.{be, Bytes}
+use Rattle.model.specs.Layers.{Layer, find}
+use Rattle.model.specs.declared.delta_snapshot.Content.{Content}
+use Rattle.model.specs.Contents.{is-some, last-use-of}
 use Rattle.model.specs.Entries.{number-at, slot-of, write-of, chunks, writes-of, slot-bytes, slots-bytes, with-slots}
 use Rattle.model.proofs.NumberLaws.{be-num}
 use Rattle.model.proofs.EntryLaws.{bytes-drop, bytes-take, SlotFits, slot-of-fits, length-slot, Each, each-none, each-more}
 use Rattle.model.proofs.SlotLaws.{split}
 use Rattle.words.specs.Parts.{part, placed}
-use Rattle.layers.specs.declared.Entry.{Entry}
-use Rattle.layers.specs.Answers.{entry-content}
+use Rattle.layers.specs.declared.Use.{Use}
+use Rattle.layers.specs.Answers.{use-option}
 use Rattle.seed.proofs.Entries.{write-at, writes-end}
 use Rattle.unchecked_advance.specs.Outputs.{PutOne, applied-in}
 
 -- By the answer of the search.
-pub found-by : (e x : Entry) (o : Option Content) → entry-content e ≡ o → e ≡ x → is-some (entry-content x) ≡ is-some o
-found-by e x o p q = ap (λ (y : Entry). is-some (entry-content y)) (sym q) ∙ ap is-some p
+used-found : (o : Option Content) → is-some (last-use-of o) ≡ is-some o
+used-found none = refl
+used-found (some c) = refl
+
+pub found-by : (e x : Use) (o : Option Content) → use-option e ≡ last-use-of o → e ≡ x → is-some (use-option x) ≡ is-some o
+found-by e x o p q = ap (λ (y : Use). is-some (use-option y)) (sym q) ∙ ap is-some p ∙ used-found o
 
 -- A slot's bytes ----------------------------------------------------------------------------------------
 

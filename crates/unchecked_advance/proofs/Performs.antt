@@ -1,37 +1,34 @@
 -- Which kind an advance is, and what follows of a carry's child. Assumes nothing.
-use Prim.Native.Nat.{ℕ, suc, _-_, _^_}
+use Prim.Native.Nat.{suc, _-_, _^_}
 use mathlib.Core.Path.{_≡_, refl, sym, ap, _∙_}
 use mathlib.Core.Bool.{Bool, true, false, _&&_, cond, true≢false}
-use mathlib.Core.List.{List}
-use mathlib.Core.Option.{Option, some, none}
+use mathlib.Core.Option.{some, none}
 use lib.Dec.{eqb, ltb}
 use borrow.Author.Tests.{eqb-true}
-use Rattle.model.specs.declared.storage_memo.Address.{Address}
 use Rattle.model.specs.declared.storage_memo.U256.{U256}
 use Rattle.model.specs.declared.storage_memo.ReadAnchor.{ReadAnchor}
-use Rattle.model.specs.declared.read_hub.Lineage.{Lineage}
 use Rattle.model.specs.declared.read_hub.Lineage.the-variants.{NotConsecutive}
 use Rattle.model.specs.declared.bal_prefetch.BalSkip.{BalSkip}
 use Rattle.model.specs.Slots.{anchor-eqb}
-use Rattle.model.specs.Advance.{Write, skip-of, classify-hash, classify-link, carries}
-use Rattle.model.specs.Store.{Config, Generation, advance, perform, performed, already-current, carry, cold-advance}
+use Rattle.model.specs.Advance.{skip-of, classify-hash, classify-link, carries}
+use Rattle.model.specs.Store.{Config, Generation, Prepared, advance, perform, performed, already-current, carry, cold-advance}
 use Rattle.model.proofs.SlotLaws.{split, and-right}
 
-module _ (cfg : Config) (g : Generation) (child : ReadAnchor) (h : U256) (k : ℕ) (relevance : List Address) (ws : List Write) where
-  pub performs-current : anchor-eqb (g .anchor) child ≡ true → perform cfg (some g) (advance child h k relevance ws) ≡ performed g (already-current cfg g)
+module _ (cfg : Config) (g : Generation) (child : ReadAnchor) (h : U256) (p : Prepared) where
+  pub performs-current : anchor-eqb (g .anchor) child ≡ true → perform cfg (some g) (advance child h p) ≡ performed g (already-current cfg g)
   unfolding perform
   performs-current e = rw e
 
-  pub performs-carry : anchor-eqb (g .anchor) child ≡ false → carries (classify-link (some (g .anchor)) child h) (skip-of k) ≡ true → perform cfg (some g) (advance child h k relevance ws) ≡ carry cfg g child relevance ws
+  pub performs-carry : anchor-eqb (g .anchor) child ≡ false → carries (classify-link (some (g .anchor)) child h) (skip-of (p .skip)) ≡ true → perform cfg (some g) (advance child h p) ≡ carry cfg g child p
   unfolding perform
   performs-carry e c = rw (e, c)
 
-  pub performs-cold : anchor-eqb (g .anchor) child ≡ false → carries (classify-link (some (g .anchor)) child h) (skip-of k) ≡ false
-      → perform cfg (some g) (advance child h k relevance ws) ≡ cold-advance cfg child (classify-link (some (g .anchor)) child h) (skip-of k) relevance ws
+  pub performs-cold : anchor-eqb (g .anchor) child ≡ false → carries (classify-link (some (g .anchor)) child h) (skip-of (p .skip)) ≡ false
+      → perform cfg (some g) (advance child h p) ≡ cold-advance cfg child (classify-link (some (g .anchor)) child h) p
   unfolding perform
   performs-cold e c = rw (e, c)
 
-  pub performs-first : perform cfg none (advance child h k relevance ws) ≡ cold-advance cfg child (classify-link none child h) (skip-of k) relevance ws
+  pub performs-first : perform cfg none (advance child h p) ≡ cold-advance cfg child (classify-link none child h) p
   unfolding perform
   performs-first = refl
 

@@ -14,7 +14,8 @@ use Rattle.model.specs.declared.storage_memo.BlockHash.{BlockHash}
 use Rattle.model.specs.declared.storage_memo.BlockHash.the-variants.{Unknown, Known}
 use Rattle.model.specs.declared.storage_memo.ReadAnchor.{ReadAnchor}
 use Rattle.model.proofs.SlotLaws.{and-intro}
-use Rattle.image.specs.WellFormed.{fits-64, u256-fits, hash-fits, anchor-fits}
+use Rattle.model.specs.Slots.{fits-64, u256-fits}
+use Rattle.image.specs.WellFormed.{hash-fits, anchor-fits}
 
 pub word-range : {x : ℕ} → x < 2 ^ 64 → fits-64 x ≡ true
 word-range {x} h = lt-ltb x (2 ^ 64) h

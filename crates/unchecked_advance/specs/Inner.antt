@@ -9,9 +9,9 @@ use lib.ListN.{length}
 use Rattle.model.specs.declared.delta_snapshot.Retention.{Retention}
 use Rattle.model.specs.declared.read_hub.CarryOutcome.{CarryOutcome}
 use Rattle.model.specs.Layers.{held-count, live-count, record-count}
-use Rattle.model.specs.Advance.{CompactionReport}
+use Rattle.model.specs.declared.delta_snapshot.CompactionReport.{CompactionReport}
 use Rattle.model.specs.Entries.{addresses-of, writes-of}
-use Rattle.model.specs.Store.{Config, Generation, chain, advance, Performed, after-writes, new-generation}
+use Rattle.model.specs.Store.{Config, Generation, chain, Performed, after-writes, new-generation}
 use Rattle.model.specs.Refusals.{refuse, ok, if-installed}
 use Rattle.image.specs.Image.{overlay, BytesResult}
 use Rattle.image.specs.Lent.{store-of, generation-of, IsStore, Installed}

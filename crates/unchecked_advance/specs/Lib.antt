@@ -1,4 +1,3 @@
--- What an advance leaves: its output, and its report.
+-- What an advance leaves in its output, and what its parts speak of.
 pub mod Outputs
-pub mod Reports
 pub mod Inner

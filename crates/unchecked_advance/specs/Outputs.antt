@@ -4,7 +4,8 @@ use mathlib.Core.Path.{_≡_}
 use mathlib.Core.Bool.{cond}
 use mathlib.Core.List.{List, [], _∷_}
 use Rattle.model.specs.declared.delta_snapshot.Slot.{Slot}
-use Rattle.model.specs.Layers.{Layer, find, is-some}
+use Rattle.model.specs.Contents.{is-some}
+use Rattle.model.specs.Layers.{Layer, find}
 use Rattle.model.specs.Advance.{Write}
 use Rattle.model.specs.Entries.{slot-of}
 use lib.ListN.{drop}

@@ -1,21 +1,25 @@
 // An advance of a store known to be right.
 use counts::Counts;
-use layers::Entry;
+use layers::Use;
 use model::bal_prefetch::BalSkip;
+use model::delta_snapshot::CompactionReport;
 use model::delta_snapshot::Slot;
 use model::read_hub::CarryOutcome;
 use model::read_hub::Lineage;
 use model::storage_memo::B256;
 use model::storage_memo::ReadAnchor;
-use seal::CompactionCounts;
+use replies::AdvanceReply;
+use replies::DeltaReport;
+use replies::WriteCounts;
 use seed::Seeded;
-use seed::WriteCounts;
 ghost use mathlib.Core.Path.{_≡_};
 ghost use mathlib.Core.List.{List};
 ghost use Prim.Native.Nat.{ℕ, suc, _+_, _*_, _/_, _≤_};
 ghost use lib.ListN.{length, take};
-ghost use Rattle.model.specs.Layers.{find, is-some};
-ghost use Rattle.model.specs.Entries.{addresses-of, writes-of, with-slots};
+ghost use Rattle.model.specs.Contents.{is-some};
+ghost use Rattle.model.specs.Layers.{find};
+ghost use Rattle.model.specs.Entries.{writes-of, with-slots};
+ghost use Rattle.model.specs.Advance.{skip-of};
 ghost use Rattle.model.specs.Store as calls;
 ghost use Rattle.model.specs.Store.{cold-advance, carry, already-current, perform};
 ghost use Rattle.model.specs.Refusals.{store-size, ok};
@@ -24,25 +28,10 @@ ghost use mathlib.Core.Bool.{true};
 ghost use Rattle.words.specs.Parts.{placed};
 ghost use Rattle.image.specs.Image.{bytes-step};
 ghost use Rattle.image.specs.Lent.{store-of, generation-of, IsStore, Installed};
-ghost use Rattle.seal.specs.Report.{report-of};
 ghost use Rattle.unchecked_advance.specs.Outputs.{PutOne, applied-in};
-ghost use Rattle.unchecked_advance.specs.Reports.{AdvancedAs, advanced-answer, advance-call};
+ghost use Rattle.replies.specs.Replies.{advance-reply, advance-call, AdvancedAs};
+ghost use Rattle.replies.specs.Replies.{lent-prepared};
 ghost use Rattle.unchecked_advance.specs.Inner.{CountedAs, CountsBefore, Ready, ended, writing};
-
-// An advance's report (`DeltaReport`); the slots written are in the output.
-pub struct AdvanceReport {
-    pub outcome: CarryOutcome,
-    pub writes: WriteCounts,
-    pub held: usize,
-    pub live: usize,
-    pub compaction: CompactionCounts,
-}
-
-// An advance's answer: a refusal's number, or its report.
-pub enum Advanced {
-    No(u64),
-    Done(AdvanceReport),
-}
 
 // Copies the first n bytes of the work area to the store.
 fn copy_back(s: &mut [u8], work: &[u8], n: usize)
@@ -69,10 +58,9 @@ fn in_top(s: &[u8], slot: Slot) -> bool
     requires { ⌜ Installed (now s) ⌝ }
     ensures { λ r. ⌜ r ≡ is-some (find slot (generation-of (now (s .entry)) .top)) ⌝ }
 {
-    match layers::top_entry(s, slot) {
-        Entry::Absent => false,
-        Entry::Used(_) => true,
-        Entry::Valued(_, _) => true,
+    match layers::top_use(s, slot) {
+        Use::None => false,
+        Use::At(_) => true,
     }
 }
 
@@ -127,20 +115,20 @@ fn finish(
     out: &mut [u8],
     before: Counts,
     outcome: CarryOutcome,
-    compaction: CompactionCounts,
-) -> Advanced
+    compaction: CompactionReport,
+) -> AdvanceReply
     requires { ⌜ Ready (now work) (now s) × (length (now writes) / 84 * 52 ≤ length (now out)) × CountedAs before (store-of (now work) .config .retention) (generation-of (now work)) ⌝ }
-    ensures { λ r. ⌜ AdvancedAs r (now (s .exit)) (now (out .exit)) (ended (store-of (now (s .entry)) .config) (writing (now (work .entry)) (now (addresses .entry)) (now (writes .entry)) outcome (report-of compaction)) (now (s .entry))) (now (out .entry)) ⌝ }
+    ensures { λ r. ⌜ AdvancedAs r (now (s .exit)) (now (out .exit)) (ended (store-of (now (s .entry)) .config) (writing (now (work .entry)) (now (addresses .entry)) (now (writes .entry)) outcome compaction) (now (s .entry))) (now (out .entry)) ⌝ }
 {
     let seeded = seed::seed_final_writes(work, addresses, writes);
     let Seeded::Done(applied) = seeded else {
-        return Advanced::No(23);
+        return AdvanceReply::Refused(23);
     };
     let counted = count_after(work, writes, out, applied.applied, before);
     let n = layout::RECORDS_OFFSET
         + layout::RECORD_SIZE * (words::read_u64(s, layout::CAPACITY_OFFSET) as usize);
     copy_back(s, work, n);
-    Advanced::Done(AdvanceReport {
+    AdvanceReply::Advanced(DeltaReport {
         outcome,
         writes: applied,
         held: counted.held,
@@ -159,13 +147,13 @@ fn cold(
     writes: &[u8],
     work: &mut [u8],
     out: &mut [u8],
-) -> Advanced
+) -> AdvanceReply
     requires { ⌜ IsStore (now s) × (anchor-fits child ≡ true) × (store-size (store-of (now s) .config .capacity) ≤ length (now work)) × (length (now writes) / 84 * 52 ≤ length (now out)) ⌝ }
-    ensures { λ r. ⌜ AdvancedAs r (now (s .exit)) (now (out .exit)) (ended (store-of (now (s .entry)) .config) (cold-advance (store-of (now (s .entry)) .config) child lineage skip (addresses-of (now (addresses .entry))) (writes-of (now (writes .entry)))) (now (s .entry))) (now (out .entry)) ⌝ }
+    ensures { λ r. ⌜ ((k : ℕ) → skip ≡ skip-of k → AdvancedAs r (now (s .exit)) (now (out .exit)) (ended (store-of (now (s .entry)) .config) (cold-advance (store-of (now (s .entry)) .config) child lineage (lent-prepared k (now (addresses .entry)) (now (writes .entry)))) (now (s .entry))) (now (out .entry))) ⌝ }
 {
     seal::begin_cold(s, work, child);
     let counted = counts_of(work);
-    let none = CompactionCounts {
+    let none = CompactionReport {
         merged: 0,
         left: 0,
         dropped: 0,
@@ -177,7 +165,7 @@ fn cold(
         work,
         out,
         counted,
-        CarryOutcome::Cold(lineage, skip),
+        CarryOutcome::Cold { lineage, bal: skip },
         none,
     )
 }
@@ -190,9 +178,9 @@ fn carried(
     writes: &[u8],
     work: &mut [u8],
     out: &mut [u8],
-) -> Advanced
+) -> AdvanceReply
     requires { ⌜ Installed (now s) × (anchor-fits child ≡ true) × (child .number ≡ suc (generation-of (now s) .anchor .number)) × (store-size (store-of (now s) .config .capacity) ≤ length (now work)) × (length (now writes) / 84 * 52 ≤ length (now out)) ⌝ }
-    ensures { λ r. ⌜ AdvancedAs r (now (s .exit)) (now (out .exit)) (ended (store-of (now (s .entry)) .config) (carry (store-of (now (s .entry)) .config) (generation-of (now (s .entry))) child (addresses-of (now (addresses .entry))) (writes-of (now (writes .entry)))) (now (s .entry))) (now (out .entry)) ⌝ }
+    ensures { λ r. ⌜ ((k : ℕ) → AdvancedAs r (now (s .exit)) (now (out .exit)) (ended (store-of (now (s .entry)) .config) (carry (store-of (now (s .entry)) .config) (generation-of (now (s .entry))) child (lent-prepared k (now (addresses .entry)) (now (writes .entry)))) (now (s .entry))) (now (out .entry))) ⌝ }
 {
     let compaction = seal::begin_carried(s, work, child);
     let counted = counts_of(work);
@@ -210,12 +198,12 @@ fn carried(
 }
 
 // The answer of an advance to the installed anchor.
-fn current(s: &[u8]) -> Advanced
+fn current(s: &[u8]) -> AdvanceReply
     requires { ⌜ Installed (now s) ⌝ }
-    ensures { λ r. ⌜ ((out : List ℕ) → advanced-answer r out ≡ ok (already-current (store-of (now (s .entry)) .config) (generation-of (now (s .entry))))) ⌝ }
+    ensures { λ r. ⌜ ((out : List ℕ) → advance-reply r out ≡ ok (already-current (store-of (now (s .entry)) .config) (generation-of (now (s .entry))))) ⌝ }
 {
     let counted = counts_of(s);
-    Advanced::Done(AdvanceReport {
+    AdvanceReply::Advanced(DeltaReport {
         outcome: CarryOutcome::AlreadyCurrent,
         writes: WriteCounts {
             applied: 0,
@@ -224,7 +212,7 @@ fn current(s: &[u8]) -> Advanced
         },
         held: counted.held,
         live: counted.live,
-        compaction: CompactionCounts {
+        compaction: CompactionReport {
             merged: 0,
             left: 0,
             dropped: 0,
@@ -242,9 +230,9 @@ fn proceed(
     writes: &[u8],
     work: &mut [u8],
     out: &mut [u8],
-) -> Advanced
+) -> AdvanceReply
     requires { ⌜ IsStore (now s) × (anchor-fits child ≡ true) × (store-size (store-of (now s) .config .capacity) ≤ length (now work)) × (length (now writes) / 84 * 52 ≤ length (now out)) ⌝ }
-    ensures { λ r. ⌜ AdvancedAs r (now (s .exit)) (now (out .exit)) (ended (store-of (now (s .entry)) .config) (perform (store-of (now (s .entry)) .config) (store-of (now (s .entry)) .installed) (calls.advance child «parent_hash» skip (addresses-of (now (addresses .entry))) (writes-of (now (writes .entry))))) (now (s .entry))) (now (out .entry)) ⌝ }
+    ensures { λ r. ⌜ AdvancedAs r (now (s .exit)) (now (out .exit)) (ended (store-of (now (s .entry)) .config) (perform (store-of (now (s .entry)) .config) (store-of (now (s .entry)) .installed) (calls.advance child «parent_hash» (lent-prepared skip (now (addresses .entry)) (now (writes .entry))))) (now (s .entry))) (now (out .entry)) ⌝ }
 {
     if header::guard(s, child) == 0 {
         return current(s);
@@ -267,27 +255,27 @@ pub fn advance(
     writes: &[u8],
     work: &mut [u8],
     out: &mut [u8],
-) -> Advanced
+) -> AdvanceReply
     requires { ⌜ IsStore (now s) ⌝ }
     ensures { λ r. ⌜ AdvancedAs r (now (s .exit)) (now (out .exit)) (bytes-step (now (s .entry)) (advance-call child «parent_hash» skip (now (addresses .entry)) (now (writes .entry)) (now (work .entry)) (now (out .entry)))) (now (out .entry)) ⌝ }
 {
     let n = writes.len() / 84;
     if skip != 0 {
         if n != 0 {
-            return Advanced::No(6);
+            return AdvanceReply::Refused(6);
         }
         if 3 < skip {
-            return Advanced::No(7);
+            return AdvanceReply::Refused(7);
         }
     }
     if work.len()
         < layout::RECORDS_OFFSET
             + layout::RECORD_SIZE * (words::read_u64(s, layout::CAPACITY_OFFSET) as usize)
     {
-        return Advanced::No(9);
+        return AdvanceReply::Refused(9);
     }
     if out.len() / 52 < n {
-        return Advanced::No(9);
+        return AdvanceReply::Refused(9);
     }
     proceed(s, child, parent_hash, skip, addresses, writes, work, out)
 }

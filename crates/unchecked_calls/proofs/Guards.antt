@@ -12,7 +12,7 @@ use Rattle.image.specs.Image.{bytes-step}
 use Rattle.image.specs.Lent.{store-of, IsStore}
 use Rattle.header.specs.Header.{anchored-refusal}
 use Rattle.header.proofs.Guards.{stopped}
-use Rattle.unchecked_calls.specs.Answers.{alone, Stepped}
+use Rattle.replies.specs.Replies.{alone, Stepped}
 use Rattle.unchecked_calls.proofs.Turned.{Plain}
 use Rattle.unchecked_calls.proofs.Said.{said-21, said-22}
 

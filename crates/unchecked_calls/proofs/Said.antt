@@ -15,18 +15,18 @@ use Rattle.model.specs.Slots.{Value, anchor-eqb}
 use Rattle.model.specs.Numbers.{Bytes}
 use Rattle.model.specs.Layers.{record-count, settle}
 use Rattle.model.specs.Advance.{void-base}
-use Rattle.model.specs.Store.{Config, Generation, Store, AnchoredCall, look, get, put, StoreCall, install, at-anchor, Call, open-store, on-store, Memory, Accepted, accept, chain, with-top, resolved, touched-top, value-report, new-generation, fresh, opened, anchor-same, anchor-fresh, value, no-value, stored}
+use Rattle.model.specs.Store.{Config, Generation, Store, look, get, put, AnchoredCall, on-slot, install, at-anchor, Call, open-store, on-store, Memory, Accepted, accept, chain, with-top, resolved, touched-top, value-report, new-generation, fresh, opened, anchor-same, anchor-fresh, value, no-value, stored}
 use Rattle.model.specs.Refusals.{Lent, Answer, refuse, ok, StepResult, conclude, step, refusal, over-capacity, store-size}
 use Rattle.image.specs.WellFormed.{installed-ok}
 use Rattle.image.specs.Image.{decode, overlay, bytes-after, BytesResult, bytes-step}
 use Rattle.image.proofs.Facts.{generation-facts, store-facts}
 use Rattle.image.proofs.ReadBack.{decode-some}
 use Rattle.header.proofs.Guards.{Other}
-use Rattle.unchecked_calls.specs.Answers.{alone, Stepped}
+use Rattle.replies.specs.Replies.{alone, Stepped}
 use Rattle.header.specs.Header.{config-of, empty, begun}
 use Rattle.top.specs.Top.{topped}
 use Rattle.header.proofs.Images.{store-split}
-use Rattle.unchecked_calls.proofs.Turned.{Plain, plain-look, plain-get, plain-put, memory-of, nothing-there, other-there, this-there, look-accepted, get-unserved, get-served, put-accepted, over-by, install-free, install-same, install-other, install-first, no-store, open-table}
+use Rattle.unchecked_calls.proofs.Turned.{Plain, plain-look, plain-get, plain-put, memory-of, nothing-there, other-there, this-there, look-accepted, get-unserved, get-served, put-accepted, over-by, install-free, install-same, install-other, install-first, open-table}
 
 -- What is lent to a call that is lent the store alone.
 abbrev lent : List ℕ → Lent
@@ -54,10 +54,6 @@ module _ (b : List ℕ) (m : Memory) (c : Call) (e : decode b ≡ m) where
 -- The same with other bytes that are equal.
 pub with-bytes : {a : Answer} {x y : List ℕ} {o : BytesResult} → y ≡ x → Stepped a x o → Stepped a y o
 with-bytes e h = record { answer-is = h .answer-is; bytes-is = e ∙ h .bytes-is }
-
--- Bytes that are no store.
-pub said-20 : (b : List ℕ) (c : StoreCall) → decode b ≡ none → Stepped (refuse 20) b (bytes-step b (alone (on-store c)))
-said-20 b c e = turned-down b none (on-store c) e 20 (no-store (lent b) c)
 
 -- 21 and 22 of a call at an anchor.
 module _ (b : List ℕ) (st : Store) (a : ReadAnchor) {k : AnchoredCall} (p : Plain k) (e : decode b ≡ some st) where
@@ -94,27 +90,27 @@ module _ (b : List ℕ) (st : Store) (g : Generation) (f : Bytes b) (e : decode 
     room h x q r z = taken-up b _ _ decoded x (over h x q r false (le-ltb _ _ z)) q
 
   module _ (a : ReadAnchor) (s : Slot) (same : anchor-eqb (g .anchor) a ≡ true) where
-    pub said-look : (o : Option Value) → o ≡ resolved (st .config .retention) g s → Stepped (ok (value-report o)) b (bytes-step b (alone (on-store (at-anchor a (look s)))))
+    pub said-look : (o : Option Value) → o ≡ resolved (st .config .retention) g s → Stepped (ok (value-report o)) b (bytes-step b (alone (on-store (at-anchor a (on-slot (look s))))))
     said-look o q =
-        subst (λ (x : Option Value). Stepped (ok (value-report x)) b (bytes-step b (alone (on-store (at-anchor a (look s)))))) (sym q)
+        subst (λ (x : Option Value). Stepped (ok (value-report x)) b (bytes-step b (alone (on-store (at-anchor a (on-slot (look s))))))) (sym q)
         (with-bytes unchanged (room a (plain-look s) same g _ (look-accepted (st .config) g a s) refl few))
 
-    pub said-none : resolved (st .config .retention) g s ≡ none → Stepped (ok no-value) b (bytes-step b (alone (on-store (at-anchor a (get s)))))
+    pub said-none : resolved (st .config .retention) g s ≡ none → Stepped (ok no-value) b (bytes-step b (alone (on-store (at-anchor a (on-slot (get s))))))
     said-none q = with-bytes unchanged (room a (plain-get s) same g _ (get-unserved (st .config) g a s q) refl few)
 
     pub said-get : (v : Value) → resolved (st .config .retention) g s ≡ some v → record-count (touched-top g s ∷ g .base) ≤ st .config .capacity →
-        Stepped (ok (value v)) (overlay (topped (st .config) g (touched-top g s)) b) (bytes-step b (alone (on-store (at-anchor a (get s)))))
+        Stepped (ok (value v)) (overlay (topped (st .config) g (touched-top g s)) b) (bytes-step b (alone (on-store (at-anchor a (on-slot (get s))))))
     said-get v q z = room a (plain-get s) same (with-top g (touched-top g s)) _ (get-served (st .config) g a s v q) refl z
 
     pub said-get-full : (v : Value) → resolved (st .config .retention) g s ≡ some v → st .config .capacity < record-count (touched-top g s ∷ g .base) →
-        Stepped (refuse 23) b (bytes-step b (alone (on-store (at-anchor a (get s)))))
+        Stepped (refuse 23) b (bytes-step b (alone (on-store (at-anchor a (on-slot (get s))))))
     said-get-full v q z = full a (plain-get s) same (with-top g (touched-top g s)) _ (get-served (st .config) g a s v q) refl z
 
     pub said-put : (v : Value) → record-count (settle (g .anchor .number) s v (g .top) ∷ g .base) ≤ st .config .capacity →
-        Stepped (ok stored) (overlay (topped (st .config) g (settle (g .anchor .number) s v (g .top))) b) (bytes-step b (alone (on-store (at-anchor a (put s v)))))
+        Stepped (ok stored) (overlay (topped (st .config) g (settle (g .anchor .number) s v (g .top))) b) (bytes-step b (alone (on-store (at-anchor a (on-slot (put s v))))))
     said-put v z = room a (plain-put s v) same (with-top g (settle (g .anchor .number) s v (g .top))) _ (put-accepted (st .config) g a s v) refl z
 
-    pub said-put-full : (v : Value) → st .config .capacity < record-count (settle (g .anchor .number) s v (g .top) ∷ g .base) → Stepped (refuse 23) b (bytes-step b (alone (on-store (at-anchor a (put s v)))))
+    pub said-put-full : (v : Value) → st .config .capacity < record-count (settle (g .anchor .number) s v (g .top) ∷ g .base) → Stepped (refuse 23) b (bytes-step b (alone (on-store (at-anchor a (on-slot (put s v))))))
     said-put-full v z = full a (plain-put s v) same (with-top g (settle (g .anchor .number) s v (g .top))) _ (put-accepted (st .config) g a s v) refl z
 
   pub said-same : (a : ReadAnchor) → anchor-eqb (g .anchor) a ≡ true → Stepped (ok anchor-same) b (bytes-step b (alone (on-store (install a))))

@@ -10,15 +10,15 @@ use Rattle.model.specs.declared.storage_memo.ReadAnchor.{ReadAnchor}
 use Rattle.model.specs.Slots.{Value, anchor-eqb}
 use Rattle.model.specs.Layers.{record-count, settle}
 use Rattle.model.specs.Reads.{all-taken, has-duplicate}
-use Rattle.model.specs.Store.{Config, Generation, AnchoredCall, look, get, put, StoreCall, install, at-anchor, Call, open-store, on-store, Memory, Accepted, accept, perform, chain, with-top, resolved, touched-top, value-report, fresh, anchor-same, anchor-fresh, value, no-value, stored}
+use Rattle.model.specs.Store.{Config, Generation, look, get, put, AnchoredCall, on-slot, StoreCall, install, at-anchor, Call, open-store, on-store, Memory, Accepted, accept, perform, chain, with-top, resolved, touched-top, value-report, fresh, anchor-same, anchor-fresh, value, no-value, stored}
 use Rattle.model.specs.Refusals.{Lent, store-size, conditions, first-that-holds, refusal, not-a-store, capacity-out-of-range, depth-out-of-range, skip-with-writes, skip-out-of-range, answer-names-twice, lent-too-short, nothing-installed, another-anchor, answered-not-taken, reads-exhausted, queue-full, over-capacity, output-short-of-queue}
 use Rattle.model.proofs.SlotLaws.{split}
 
 -- The calls at an anchor that these laws are about.
 pub data Plain : AnchoredCall → Type 0 where
-  plain-look : (s : Slot) → Plain (look s)
-  plain-get : (s : Slot) → Plain (get s)
-  plain-put : (s : Slot) (v : Value) → Plain (put s v)
+  plain-look : (s : Slot) → Plain (on-slot (look s))
+  plain-get : (s : Slot) → Plain (on-slot (get s))
+  plain-put : (s : Slot) (v : Value) → Plain (on-slot (put s v))
 
 -- A memory with a store.
 abbrev pub memory-of : Config → Option Generation → Memory
@@ -46,22 +46,22 @@ this-there cfg g l a (plain-put s v) e = rw e
 
 -- What each of them accepted comes to.
 pub look-accepted : (cfg : Config) (g : Generation) (a : ReadAnchor) (s : Slot) →
-    accept (memory-of cfg (some g)) (on-store (at-anchor a (look s))) ≡ record { memory = memory-of cfg (some g); report = value-report (resolved (cfg .retention) g s) }
+    accept (memory-of cfg (some g)) (on-store (at-anchor a (on-slot (look s)))) ≡ record { memory = memory-of cfg (some g); report = value-report (resolved (cfg .retention) g s) }
 unfolding accept perform
 look-accepted cfg g a s = refl
 
 pub get-unserved : (cfg : Config) (g : Generation) (a : ReadAnchor) (s : Slot) → resolved (cfg .retention) g s ≡ none →
-    accept (memory-of cfg (some g)) (on-store (at-anchor a (get s))) ≡ record { memory = memory-of cfg (some g); report = no-value }
+    accept (memory-of cfg (some g)) (on-store (at-anchor a (on-slot (get s)))) ≡ record { memory = memory-of cfg (some g); report = no-value }
 unfolding accept perform
 get-unserved cfg g a s e = rw e
 
 pub get-served : (cfg : Config) (g : Generation) (a : ReadAnchor) (s : Slot) (v : Value) → resolved (cfg .retention) g s ≡ some v →
-    accept (memory-of cfg (some g)) (on-store (at-anchor a (get s))) ≡ record { memory = memory-of cfg (some (with-top g (touched-top g s))); report = value v }
+    accept (memory-of cfg (some g)) (on-store (at-anchor a (on-slot (get s)))) ≡ record { memory = memory-of cfg (some (with-top g (touched-top g s))); report = value v }
 unfolding accept perform
 get-served cfg g a s v e = rw e
 
 pub put-accepted : (cfg : Config) (g : Generation) (a : ReadAnchor) (s : Slot) (v : Value) →
-    accept (memory-of cfg (some g)) (on-store (at-anchor a (put s v))) ≡ record { memory = memory-of cfg (some (with-top g (settle (g .anchor .number) s v (g .top)))); report = stored }
+    accept (memory-of cfg (some g)) (on-store (at-anchor a (on-slot (put s v)))) ≡ record { memory = memory-of cfg (some (with-top g (settle (g .anchor .number) s v (g .top)))); report = stored }
 unfolding accept perform
 put-accepted cfg g a s v = refl
 

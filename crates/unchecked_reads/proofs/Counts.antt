@@ -28,7 +28,7 @@ use Rattle.awaiting.proofs.Changes.{join-fits}
 use Rattle.awaiting.proofs.Lists.{entry-slots-alone, entry-slots-members, length-entry-slots}
 use Rattle.totals.specs.Totals.{Answerable}
 use Rattle.totals.proofs.Bounds.{answerable}
-use Rattle.unchecked_calls.specs.Answers.{Stepped}
+use Rattle.replies.specs.Replies.{Stepped}
 use Rattle.settling.specs.Settling.{added}
 use Rattle.settling.proofs.Additions.{length-settled}
 use Rattle.unchecked_reads.proofs.Image.{few-waiters}

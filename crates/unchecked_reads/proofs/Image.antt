@@ -1,9 +1,8 @@
 -- The image of a store with a generation in segments: before the number of awaiting slots, up to their area, the area, the records; other awaiting slots and other totals.
 use Prim.Native.Nat.{ℕ, pred, _+_, _-_, _*_, _^_, _≤_, _<_}
-use mathlib.Core.Path.{_≡_, refl, sym, ap, ap₂, subst, _∙_}
-use mathlib.Core.Bool.{true}
+use mathlib.Core.Path.{_≡_, sym, ap, ap₂, subst, _∙_}
 use mathlib.Core.List.{List, [], _∷_, _++_, append-assoc, append-nil}
-use mathlib.Core.Option.{Option, some, none}
+use mathlib.Core.Option.{Option, some}
 use native.Mathlib.Omega.{arith}
 use lib.ListN.{length, take, drop, length-append, length-drop, drop-of-length-le}
 use lib.Seq.{take-at, drop-at, take-all}
@@ -21,13 +20,13 @@ use Rattle.model.specs.Entries.{with-slots}
 use Rattle.model.specs.Store.{Config, Generation, Store, chain, with-reads}
 use Rattle.model.specs.Refusals.{store-size}
 use Rattle.words.specs.Parts.{placed}
-use Rattle.image.specs.WellFormed.{pending-ok, all-waiters}
-use Rattle.image.specs.Image.{bytes-of, words-of, hash-words, totals-words, all-record-words, all-pending-words, flat-records, layer-ends, padded, config-words, generation-words, installed-words, image-words, image, read-totals, decode, overlay}
+use Rattle.image.specs.WellFormed.{all-waiters}
+use Rattle.image.specs.Image.{bytes-of, words-of, hash-words, totals-words, all-record-words, all-pending-words, flat-records, layer-ends, padded, config-words, image-words, image, read-totals, overlay}
 use Rattle.image.specs.Area.{pending-of, with-pending}
 use Rattle.image.specs.Lent.{store-of, generation-of, Installed}
-use Rattle.image.proofs.Words.{Fit, fit-nil, fit-cons, length-bytes-of, length-padded, length-words-of, words-of-bytes}
+use Rattle.model.proofs.WordLaws.{Fit, fit-nil, fit-cons}
+use Rattle.image.proofs.Words.{length-bytes-of, length-padded, length-words-of, words-of-bytes}
 use Rattle.image.proofs.Entries.{length-records, length-flat, length-ends, length-pending}
-use Rattle.image.proofs.Facts.{ConfigFacts, GenerationFacts}
 use Rattle.image.proofs.Areas.{words-part, GenerationBytes}
 use Rattle.image.proofs.Lent.{store-in, generation-in}
 use Rattle.image.proofs.ReadBack.{decode-some, length-image}
@@ -37,7 +36,7 @@ use Rattle.awaiting.proofs.Area.{area-of, area-changed, ready-area}
 use Rattle.awaiting.proofs.Stored.{rising-of}
 use Rattle.totals.specs.Totals.{Small, totals-of, with-totals}
 use Rattle.totals.proofs.Bounds.{small-of}
-use Rattle.totals.proofs.InStore.{store-with, store-with-totals}
+use Rattle.totals.proofs.InStore.{store-with-totals}
 use Rattle.header.proofs.Segments.{placed-over}
 use Rattle.header.proofs.Images.{store-split, length-retention, length-hash}
 use Rattle.settling.specs.Settling.{Settled}

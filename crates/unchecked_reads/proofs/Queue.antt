@@ -6,11 +6,11 @@ use mathlib.Core.List.{List, [], _∷_}
 use lib.Dec.{ltb}
 use borrow.Author.Tests.{ltb-true}
 use Rattle.model.specs.declared.delta_snapshot.Slot.{Slot}
-use Rattle.model.specs.Slots.{slot-ltb}
+use Rattle.model.specs.Slots.{slot-ltb, fits-64, u256-fits}
 use Rattle.model.specs.Reads.{Pending, queued}
 use Rattle.model.proofs.SlotLaws.{and-left, and-right}
 use Rattle.model.proofs.EntryLaws.{SlotFits, Each, each-none, each-more}
-use Rattle.image.specs.WellFormed.{fits-64, u256-fits, address-fits, slot-fits, pending-ok-from, pending-ok}
+use Rattle.image.specs.WellFormed.{address-fits, slot-fits, pending-ok-from, pending-ok}
 
 -- A slot that fits, by its words.
 fits-slot : (s : Slot) → slot-fits s ≡ true → SlotFits s

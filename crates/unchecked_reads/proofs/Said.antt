@@ -1,5 +1,5 @@
 -- What read, take and the answers come to on bytes.
-use Prim.Native.Nat.{ℕ, suc, _+_, _*_, _/_, _≤_, _<_}
+use Prim.Native.Nat.{ℕ, suc, _≤_, _<_}
 use mathlib.Core.Path.{_≡_, refl, sym, ap, ap₂, subst, _∙_}
 use mathlib.Core.Bool.{Bool, true, false, not, _&&_, cond}
 use mathlib.Core.List.{List, [], _∷_}
@@ -14,22 +14,21 @@ use Rattle.model.specs.declared.storage_memo.BlockHash.{BlockHash}
 use Rattle.model.specs.declared.storage_memo.BlockHash.the-variants.{Unknown, Known}
 use Rattle.model.specs.Slots.{Value, u256-words, u256-eqb, hash-eqb, anchor-eqb}
 use Rattle.model.proofs.SlotLaws.{and-intro, words-eqb-refl, anchor-eqb-true}
-use Rattle.model.specs.Layers.{Layer, is-some, record-count}
+use Rattle.model.specs.Layers.{Layer, record-count}
+use Rattle.model.specs.Contents.{is-some}
 use Rattle.model.specs.Reads.{Member, is-awaiting, waiters-of, join, queued, take-queued, remove-all-pending, woken, all-taken, has-duplicate, member-slots, valued-slots, refused-slots, settle-members, count-served, count-waiting, count-answer}
 use Rattle.model.specs.Entries.{first-slots, with-slots}
 use Rattle.model.proofs.EntryLaws.{SlotFits, Each, slots-back}
-use Rattle.model.specs.Store.{Config, Generation, Store, AnchoredCall, read, take, answer, answer-failed, at-anchor, Call, on-store, Memory, Performed, Accepted, accept, chain, resolved, touched-top, with-reads, perform-answer, value, waiting, listed, answered}
+use Rattle.model.specs.Store.{Config, Generation, read, AnchoredCall, on-slot, take, answer, answer-failed, at-anchor, on-store, Memory, Accepted, accept, chain, resolved, touched-top, with-reads, value, waiting, listed, answered}
 use Rattle.model.specs.Refusals.{Lent, answered-slots, Answer, refuse, ok, StepResult, conclude, step, refusal, over-capacity}
 use Rattle.image.specs.Image.{decode, overlay, bytes-after, BytesCall, BytesResult, lent-call, bytes-step}
 use Rattle.image.specs.Lent.{store-of, generation-of, IsStore, Installed}
-use Rattle.image.specs.Output.{output-after}
 use Rattle.image.proofs.Lent.{generation-in}
-use Rattle.unchecked_calls.specs.Answers.{alone, Stepped}
+use Rattle.replies.specs.Replies.{alone, Stepped, Took}
 use Rattle.header.specs.Header.{anchored-refusal}
-use Rattle.unchecked_calls.proofs.Turned.{memory-of, over-by, no-store}
+use Rattle.unchecked_calls.proofs.Turned.{memory-of, over-by}
 use Rattle.header.proofs.Guards.{Here}
-use Rattle.unchecked_reads.specs.declared.TakeAnswer.the-variants.{No as no-take, Listed}
-use Rattle.unchecked_reads.specs.Answers.{with-output, Took}
+use Rattle.replies.specs.declared.TakeReply.the-variants.{Refused as take-refused, Listed}
 use Rattle.unchecked_reads.specs.Inner.{reading, awaited, answer-refusal}
 use Rattle.unchecked_reads.proofs.Turned.{twice, nothing-there, other-there, read-here, read-served, read-waits, take-here, take-accepted, answer-here, failed-here, answer-accepted, failed-accepted}
 
@@ -56,8 +55,8 @@ pub stepped : {a : Answer} {x : List ℕ} {o : BytesResult} → o ≡ record { b
 stepped q = record { answer-is = ap (λ (o : BytesResult). o .answer) (sym q); bytes-is = ap (λ (o : BytesResult). o .bytes) (sym q) }
 
 -- What a take's contract names: a refusal, and a list.
-pub took-none : {b out : List ℕ} {n : ℕ} {o : BytesResult} → o ≡ record { bytes = b; answer = refuse n } → Took (no-take n) b out out o
-took-none {b} {out} {n} {o} q = subst (λ (x : BytesResult). Took (no-take n) b out out x) (sym q) (record { answer-is = refl; bytes-is = refl; output-is = refl })
+pub took-none : {b out : List ℕ} {n : ℕ} {o : BytesResult} → o ≡ record { bytes = b; answer = refuse n } → Took (take-refused n) b out out o
+took-none {b} {out} {n} {o} q = subst (λ (x : BytesResult). Took (take-refused n) b out out x) (sym q) (record { answer-is = refl; bytes-is = refl; output-is = refl })
 
 pub took : {b x out y : List ℕ} {n : ℕ} {ss : List Slot} {o : BytesResult} → o ≡ record { bytes = b; answer = ok (listed ss) } → Each SlotFits ss → n ≡ length ss → x ≡ b → y ≡ with-slots ss out
     → Took (Listed n) x y out o
@@ -65,7 +64,7 @@ took {b} {x} {out} {y} {n} {ss} {o} q t e f g =
     let k : first-slots n y ≡ ss = ap₂ first-slots e g ∙ slots-back out t in
     subst (λ (r : BytesResult). Took (Listed n) x y out r) (sym q) (record { answer-is = ap (λ (l : List Slot). ok (listed l)) k; bytes-is = f; output-is = g })
 
--- 20, 8, 21 and 22.
+-- 8, 21 and 22.
 abbrev anchored : ReadAnchor → AnchoredCall → ℕ → BytesCall
 anchored a k n = record { call = on-store (at-anchor a k); work-bytes = 0; output-entries = n }
 
@@ -75,9 +74,6 @@ unfolding has-duplicate
 none-twice = refl
 
 module _ (b : List ℕ) (a : ReadAnchor) (k : AnchoredCall) (n : ℕ) where
-  pub said-20 : decode b ≡ none → bytes-step b (anchored a k n) ≡ record { bytes = b; answer = refuse 20 }
-  said-20 e = turned-down b none (anchored a k n) e 20 (no-store (lent b (anchored a k n)) (at-anchor a k))
-
   pub said-8 : IsStore b → has-duplicate (answered-slots k) ≡ true → bytes-step b (anchored a k n) ≡ record { bytes = b; answer = refuse 8 }
   said-8 e d = turned-down b (some (store-of b)) (anchored a k n) e 8 (twice (store-of b .config) (store-of b .installed) (lent b (anchored a k n)) a k d)
 
@@ -162,37 +158,37 @@ module _ (b : List ℕ) (a : ReadAnchor) (h : Here b a) where
     said-take z = taken-up b _ (anchored a take n) decoded _ (take-here cfg g (lent b (anchored a take n)) a (h .same) ∙ rw (take-over, le-ltb n (length (queued (g .pending))) z)) (take-accepted cfg g a)
 
   -- A read: 25 of any.
-  pub said-25 : (s : Slot) → 4294967295 ≤ g .totals .accepted → bytes-step b (alone (on-store (at-anchor a (read s)))) ≡ record { bytes = b; answer = refuse 25 }
-  said-25 s z = turned-down b _ (anchored a (read s) 0) decoded 25 (read-here cfg g (lent b (anchored a (read s) 0)) a s (h .same) ∙ rw (le-leb 4294967295 (g .totals .accepted) z))
+  pub said-25 : (s : Slot) → 4294967295 ≤ g .totals .accepted → bytes-step b (alone (on-store (at-anchor a (on-slot (read s))))) ≡ record { bytes = b; answer = refuse 25 }
+  said-25 s z = turned-down b _ (anchored a (on-slot (read s)) 0) decoded 25 (read-here cfg g (lent b (anchored a (on-slot (read s)) 0)) a s (h .same) ∙ rw (le-leb 4294967295 (g .totals .accepted) z))
 
   module _ (s : Slot) (some-left : g .totals .accepted < 4294967295) where
     abbrev this : BytesResult
-    this = bytes-step b (alone (on-store (at-anchor a (read s))))
+    this = bytes-step b (alone (on-store (at-anchor a (on-slot (read s)))))
 
     -- Of a served slot: 23, or the value.
     served-table : (v : Value) (t : Bool) → resolved (cfg .retention) g s ≡ some v → ltb (cfg .capacity) (record-count (touched-top g s ∷ g .base)) ≡ t →
-        refusal (memory-of cfg (some g)) (lent b (anchored a (read s) 0)) (on-store (at-anchor a (read s))) ≡ cond t (some 23) none
+        refusal (memory-of cfg (some g)) (lent b (anchored a (on-slot (read s)) 0)) (on-store (at-anchor a (on-slot (read s)))) ≡ cond t (some 23) none
     served-table v t e z =
-        let o : over-capacity (memory-of cfg (some g)) (on-store (at-anchor a (read s))) ≡ t = over (read s) _ (with-reads g (touched-top g s) (g .pending) (count-served (g .totals))) t (read-served cfg g a s v e) refl z in
-        read-here cfg g (lent b (anchored a (read s) 0)) a s (h .same) ∙ rw (lt-leb 4294967295 (g .totals .accepted) some-left, e, o)
+        let o : over-capacity (memory-of cfg (some g)) (on-store (at-anchor a (on-slot (read s)))) ≡ t = over (on-slot (read s)) _ (with-reads g (touched-top g s) (g .pending) (count-served (g .totals))) t (read-served cfg g a s v e) refl z in
+        read-here cfg g (lent b (anchored a (on-slot (read s)) 0)) a s (h .same) ∙ rw (lt-leb 4294967295 (g .totals .accepted) some-left, e, o)
 
     pub said-full : (v : Value) → resolved (cfg .retention) g s ≡ some v → cfg .capacity < record-count (touched-top g s ∷ g .base) → this ≡ record { bytes = b; answer = refuse 23 }
-    said-full v e z = turned-down b _ (anchored a (read s) 0) decoded 23 (served-table v true e (lt-ltb _ _ z))
+    said-full v e z = turned-down b _ (anchored a (on-slot (read s)) 0) decoded 23 (served-table v true e (lt-ltb _ _ z))
 
     pub said-served : (v : Value) → resolved (cfg .retention) g s ≡ some v → record-count (touched-top g s ∷ g .base) ≤ cfg .capacity →
         this ≡ record { bytes = overlay (reading cfg g (touched-top g s) (g .pending) (count-served (g .totals))) b; answer = ok (value v) }
-    said-served v e z = taken-up b _ (anchored a (read s) 0) decoded _ (served-table v false e (le-ltb _ _ z)) (read-served cfg g a s v e)
+    said-served v e z = taken-up b _ (anchored a (on-slot (read s)) 0) decoded _ (served-table v false e (le-ltb _ _ z)) (read-served cfg g a s v e)
 
     -- Of another: 24, or it waits.
     pub said-24 : resolved (cfg .retention) g s ≡ none → (not (is-awaiting s (g .pending)) && leb 64 (length (g .pending))) ≡ true → this ≡ record { bytes = b; answer = refuse 24 }
     said-24 e w =
-        turned-down b _ (anchored a (read s) 0) decoded 24 (read-here cfg g (lent b (anchored a (read s) 0)) a s (h .same) ∙ rw (lt-leb 4294967295 (g .totals .accepted) some-left, e, w))
+        turned-down b _ (anchored a (on-slot (read s)) 0) decoded 24 (read-here cfg g (lent b (anchored a (on-slot (read s)) 0)) a s (h .same) ∙ rw (lt-leb 4294967295 (g .totals .accepted) some-left, e, w))
 
     pub said-waits : resolved (cfg .retention) g s ≡ none → (not (is-awaiting s (g .pending)) && leb 64 (length (g .pending))) ≡ false →
         this ≡ record { bytes = overlay (reading cfg g (g .top) (join s (g .pending)) (count-waiting (is-awaiting s (g .pending)) (g .totals))) b; answer = ok (waiting (suc (waiters-of s (g .pending)))) }
     said-waits e w =
-        let o : over-capacity (memory-of cfg (some g)) (on-store (at-anchor a (read s))) ≡ false = over (read s) _ (with-reads g (g .top) (join s (g .pending)) (count-waiting (is-awaiting s (g .pending)) (g .totals))) false (read-waits cfg g a s e) refl (le-ltb _ _ few) in
-        taken-up b _ (anchored a (read s) 0) decoded _ (read-here cfg g (lent b (anchored a (read s) 0)) a s (h .same) ∙ rw (lt-leb 4294967295 (g .totals .accepted) some-left, e, w, o)) (read-waits cfg g a s e)
+        let o : over-capacity (memory-of cfg (some g)) (on-store (at-anchor a (on-slot (read s)))) ≡ false = over (on-slot (read s)) _ (with-reads g (g .top) (join s (g .pending)) (count-waiting (is-awaiting s (g .pending)) (g .totals))) false (read-waits cfg g a s e) refl (le-ltb _ _ few) in
+        taken-up b _ (anchored a (on-slot (read s)) 0) decoded _ (read-here cfg g (lent b (anchored a (on-slot (read s)) 0)) a s (h .same) ∙ rw (lt-leb 4294967295 (g .totals .accepted) some-left, e, w, o)) (read-waits cfg g a s e)
 
   -- An answer of either form, of distinct slots: 26, 23, or it is done.
   module _ (ss : List Slot) (d : has-duplicate ss ≡ false) where

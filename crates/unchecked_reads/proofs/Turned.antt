@@ -1,7 +1,6 @@
 -- What the table of refusals comes to for read, take and the answers.
-use Prim.Native.Nat.{ℕ}
 use mathlib.Core.Path.{_≡_, refl}
-use mathlib.Core.Bool.{Bool, true, false, not, _&&_, cond}
+use mathlib.Core.Bool.{true, false, not, _&&_, cond}
 use mathlib.Core.List.{List, []}
 use mathlib.Core.Option.{Option, some, none}
 use lib.Dec.{leb, ltb}
@@ -9,9 +8,9 @@ use lib.ListN.{length}
 use Rattle.model.specs.declared.delta_snapshot.Slot.{Slot}
 use Rattle.model.specs.declared.storage_memo.ReadAnchor.{ReadAnchor}
 use Rattle.model.specs.Slots.{Value, anchor-eqb}
-use Rattle.model.specs.Layers.{is-some}
-use Rattle.model.specs.Reads.{Member, is-awaiting, waiters-of, join, queued, take-queued, remove-all-pending, woken, all-taken, has-duplicate, member-slots, valued-slots, refused-slots, settle-members, count-served, count-waiting, count-answer}
-use Rattle.model.specs.Store.{Config, Generation, AnchoredCall, read, take, answer, answer-failed, at-anchor, on-store, Performed, Accepted, accept, perform, resolved, touched-top, with-reads, perform-read, perform-answer, value, waiting, listed}
+use Rattle.model.specs.Reads.{Member, is-awaiting, queued, take-queued, all-taken, has-duplicate, member-slots, valued-slots, refused-slots, settle-members, count-served}
+use Rattle.model.specs.Store.{Config, Generation, read, AnchoredCall, on-slot, take, answer, answer-failed, at-anchor, on-store, Performed, accept, perform, resolved, touched-top, with-reads, perform-read, perform-answer, value, listed}
+use Rattle.model.specs.Contents.{is-some}
 use Rattle.model.specs.Refusals.{Lent, answered-slots, conditions, first-that-holds, refusal, not-a-store, capacity-out-of-range, depth-out-of-range, skip-with-writes, skip-out-of-range, answer-names-twice, lent-too-short, nothing-installed, another-anchor, answered-not-taken, reads-exhausted, queue-full, over-capacity, output-short-of-queue}
 use Rattle.unchecked_calls.proofs.Turned.{memory-of}
 
@@ -30,20 +29,20 @@ other-there cfg g l a k d e = rw (d, e)
 
 -- A read: 25, 24, 23.
 pub read-here : (cfg : Config) (g : Generation) (l : Lent) (a : ReadAnchor) (s : Slot) → anchor-eqb (g .anchor) a ≡ true →
-    refusal (memory-of cfg (some g)) l (on-store (at-anchor a (read s)))
+    refusal (memory-of cfg (some g)) l (on-store (at-anchor a (on-slot (read s))))
     ≡ cond (leb 4294967295 (g .totals .accepted)) (some 25)
     (cond (not (is-some (resolved (cfg .retention) g s)) && not (is-awaiting s (g .pending)) && leb 64 (length (g .pending))) (some 24)
-    (cond (over-capacity (memory-of cfg (some g)) (on-store (at-anchor a (read s)))) (some 23) none))
+    (cond (over-capacity (memory-of cfg (some g)) (on-store (at-anchor a (on-slot (read s))))) (some 23) none))
 unfolding refusal conditions first-that-holds not-a-store capacity-out-of-range depth-out-of-range skip-with-writes skip-out-of-range answer-names-twice lent-too-short nothing-installed another-anchor answered-not-taken reads-exhausted queue-full output-short-of-queue has-duplicate all-taken
 read-here cfg g l a s e = rw e
 
 pub read-served : (cfg : Config) (g : Generation) (a : ReadAnchor) (s : Slot) (v : Value) → resolved (cfg .retention) g s ≡ some v →
-    accept (memory-of cfg (some g)) (on-store (at-anchor a (read s))) ≡ record { memory = memory-of cfg (some (with-reads g (touched-top g s) (g .pending) (count-served (g .totals)))); report = value v }
+    accept (memory-of cfg (some g)) (on-store (at-anchor a (on-slot (read s)))) ≡ record { memory = memory-of cfg (some (with-reads g (touched-top g s) (g .pending) (count-served (g .totals)))); report = value v }
 unfolding accept perform
 read-served cfg g a s v e = rw e
 
 pub read-waits : (cfg : Config) (g : Generation) (a : ReadAnchor) (s : Slot) → resolved (cfg .retention) g s ≡ none →
-    accept (memory-of cfg (some g)) (on-store (at-anchor a (read s))) ≡ record { memory = memory-of cfg (perform-read g s none .installed); report = perform-read g s none .report }
+    accept (memory-of cfg (some g)) (on-store (at-anchor a (on-slot (read s)))) ≡ record { memory = memory-of cfg (perform-read g s none .installed); report = perform-read g s none .report }
 unfolding accept perform
 read-waits cfg g a s e = rw e
 

@@ -1,3 +1,2 @@
--- What the answers of a read, a take and an answer mean, and what their contracts say.
-pub mod Answers
+-- What the parts of reads on a known store speak of.
 pub mod Inner

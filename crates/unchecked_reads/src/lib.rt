@@ -1,8 +1,11 @@
 // The calls read, take, answer and answer_failed on bytes that are known to be a store.
-use layers::Held;
+use model::delta_snapshot::Held;
 use model::delta_snapshot::Slot;
 use model::storage_memo::ReadAnchor;
 use model::storage_memo::U256;
+use replies::AnswerReply;
+use replies::ReadReply;
+use replies::TakeReply;
 ghost use mathlib.Core.Path.{_≡_};
 ghost use mathlib.Core.Bool.{true, false, not, _&&_};
 ghost use lib.Dec.{leb};
@@ -10,36 +13,17 @@ ghost use mathlib.Core.Option.{some, none};
 ghost use mathlib.Core.List.{_∷_};
 ghost use Prim.Native.Nat.{_+_, _*_, _≤_};
 ghost use lib.ListN.{length};
-ghost use Rattle.model.specs.Layers.{is-some, record-count};
+ghost use Rattle.model.specs.Contents.{is-some};
+ghost use Rattle.model.specs.Layers.{record-count};
 ghost use Rattle.model.specs.Reads as reads;
 ghost use Rattle.model.specs.Store as calls;
-ghost use Rattle.model.specs.Store.{on-store, at-anchor, resolved};
+ghost use Rattle.model.specs.Store.{on-store, at-anchor, on-slot, resolved};
 ghost use Rattle.model.specs.Entries.{slots-of, members-of};
 ghost use Rattle.image.specs.Image.{decode, overlay, bytes-step};
 ghost use Rattle.image.specs.Lent.{store-of, generation-of, IsStore, Installed as HasGeneration};
 ghost use Rattle.awaiting.specs.Awaiting.{Lists, entry-slots};
-ghost use Rattle.unchecked_calls.specs.Answers.{alone, Stepped};
-ghost use Rattle.unchecked_reads.specs.Answers.{read-answer, answered-answer, with-output, Took};
+ghost use Rattle.replies.specs.Replies.{read-reply, answer-reply, alone, with-output, Stepped, Took};
 ghost use Rattle.unchecked_reads.specs.Inner.{awaited, Open, answer-refusal};
-
-// A read's answer: a refusal's number, the value, or the slot's waiters.
-pub enum ReadAnswer {
-    No(u64),
-    Value(U256),
-    Wait(u64),
-}
-
-// A take's answer: a refusal's number, or the number of slots listed.
-pub enum TakeAnswer {
-    No(u64),
-    Listed(usize),
-}
-
-// An answer's answer: a refusal's number, or members, member errors and waiters woken.
-pub enum AnswerAnswer {
-    No(u64),
-    Answered(u64, u64, u64),
-}
 
 // The number of awaiting slots.
 fn awaiting_count(s: &[u8]) -> usize
@@ -144,60 +128,60 @@ fn take_queued(s: &mut [u8], out: &mut [u8]) -> usize
 }
 
 // A take (`take_queued`): lists the queue, rising, and marks it taken.
-pub fn take(s: &mut [u8], anchor: ReadAnchor, out: &mut [u8]) -> TakeAnswer
+pub fn take(s: &mut [u8], anchor: ReadAnchor, out: &mut [u8]) -> TakeReply
     requires { ⌜ is-some (decode (now s)) ≡ true ⌝ }
     ensures { λ r. ⌜ Took r (now (s .exit)) (now (out .exit)) (now (out .entry)) (bytes-step (now (s .entry)) (with-output (on-store (at-anchor anchor calls.take)) (now (out .entry)))) ⌝ }
 {
     let n = header::guard(s, anchor);
     if n != 0 {
-        return TakeAnswer::No(n);
+        return TakeReply::Refused(n);
     }
     if out.len() / 52 < queue_len(s) {
-        return TakeAnswer::No(27);
+        return TakeReply::Refused(27);
     }
-    TakeAnswer::Listed(take_queued(s, out))
+    TakeReply::Listed(take_queued(s, out) as u64)
 }
 
 // A read of a served slot: its own use is set, and the read is counted.
-fn serve(s: &mut [u8], slot: Slot, v: U256) -> ReadAnswer
+fn serve(s: &mut [u8], slot: Slot, v: U256) -> ReadReply
     requires { ⌜ Open (now s) × (resolved (store-of (now s) .config .retention) (generation-of (now s)) slot ≡ some v) ⌝ }
-    ensures { λ r. ⌜ Stepped (read-answer r) (now (s .exit)) (bytes-step (now (s .entry)) (alone (on-store (at-anchor (generation-of (now (s .entry)) .anchor) (calls.read slot))))) ⌝ }
+    ensures { λ r. ⌜ Stepped (read-reply r) (now (s .exit)) (bytes-step (now (s .entry)) (alone (on-store (at-anchor (generation-of (now (s .entry)) .anchor) (on-slot (calls.read slot)))))) ⌝ }
 {
     let place = top::top_place(s, slot);
     if !top::has_room(s, place) {
-        return ReadAnswer::No(23);
+        return ReadReply::Refused(23);
     }
     top::touch_top(s, place, slot);
     totals::record_read(s, true, false);
-    ReadAnswer::Value(v)
+    ReadReply::Value(v)
 }
 
 // A read of another slot: it awaits an answer, and the read is counted.
-fn wait(s: &mut [u8], slot: Slot) -> ReadAnswer
+fn wait(s: &mut [u8], slot: Slot) -> ReadReply
     requires { ⌜ Open (now s) × (resolved (store-of (now s) .config .retention) (generation-of (now s)) slot ≡ none) ⌝ }
-    ensures { λ r. ⌜ Stepped (read-answer r) (now (s .exit)) (bytes-step (now (s .entry)) (alone (on-store (at-anchor (generation-of (now (s .entry)) .anchor) (calls.read slot))))) ⌝ }
+    ensures { λ r. ⌜ Stepped (read-reply r) (now (s .exit)) (bytes-step (now (s .entry)) (alone (on-store (at-anchor (generation-of (now (s .entry)) .anchor) (on-slot (calls.read slot)))))) ⌝ }
 {
     if queue_full(s, slot) {
-        return ReadAnswer::No(24);
+        return ReadReply::Refused(24);
     }
     let joined = is_awaiting(s, slot);
     let w = waiters(s, slot);
     join(s, slot);
     totals::record_read(s, false, joined);
-    ReadAnswer::Wait(w + 1)
+    ReadReply::Waiting(w + 1)
 }
 
 // A read: the value of a served slot, else the slot awaits an answer.
-pub fn read(s: &mut [u8], anchor: ReadAnchor, slot: Slot) -> ReadAnswer
+pub fn read(s: &mut [u8], anchor: ReadAnchor, slot: Slot) -> ReadReply
     requires { ⌜ is-some (decode (now s)) ≡ true ⌝ }
-    ensures { λ r. ⌜ Stepped (read-answer r) (now (s .exit)) (bytes-step (now (s .entry)) (alone (on-store (at-anchor anchor (calls.read slot))))) ⌝ }
+    ensures { λ r. ⌜ Stepped (read-reply r) (now (s .exit)) (bytes-step (now (s .entry)) (alone (on-store (at-anchor anchor (on-slot (calls.read slot)))))) ⌝ }
 {
     let n = header::guard(s, anchor);
     if n != 0 {
-        return ReadAnswer::No(n);
+        return ReadReply::Refused(n);
     }
     if 4294967295 <= words::read_u64(s, layout::ACCEPTED_OFFSET) {
-        return ReadAnswer::No(25);
+        return ReadReply::Refused(25);
     }
     let Held::Value(v) = layers::resolved(s, slot) else {
         return wait(s, slot);
@@ -217,22 +201,26 @@ fn guard_answer(s: &[u8], anchor: ReadAnchor, list: &[u8], stride: usize) -> u64
 }
 
 // An answer of a round that failed as a whole: its slots go, and their waiters are refused.
-pub fn answer_failed(s: &mut [u8], anchor: ReadAnchor, slots: &[u8]) -> AnswerAnswer
+pub fn answer_failed(s: &mut [u8], anchor: ReadAnchor, slots: &[u8]) -> AnswerReply
     requires { ⌜ is-some (decode (now s)) ≡ true ⌝ }
-    ensures { λ r. ⌜ Stepped (answered-answer r) (now (s .exit)) (bytes-step (now (s .entry)) (alone (on-store (at-anchor anchor (calls.answer-failed (slots-of (now (slots .entry)))))))) ⌝ }
+    ensures { λ r. ⌜ Stepped (answer-reply r) (now (s .exit)) (bytes-step (now (s .entry)) (alone (on-store (at-anchor anchor (calls.answer-failed (slots-of (now (slots .entry)))))))) ⌝ }
 {
     let n = guard_answer(s, anchor, slots, 52);
     if n != 0 {
-        return AnswerAnswer::No(n);
+        return AnswerReply::Refused(n);
     }
     if !all_taken(s, slots, 52) {
-        return AnswerAnswer::No(26);
+        return AnswerReply::Refused(26);
     }
     let members = (slots.len() / 52) as u64;
     let w = woken(s, slots, 52);
     remove_all(s, slots, 52);
     totals::record_answer(s, members, 0, 0, w);
-    AnswerAnswer::Answered(members, 0, w)
+    AnswerReply::Answered {
+        members,
+        errors: 0,
+        woken: w,
+    }
 }
 
 // Whether there is room for the records that the values of a lent answer add.
@@ -246,9 +234,9 @@ fn has_space(s: &[u8], list: &[u8]) -> bool
 }
 
 // An answer that is not refused: its values are put, its slots go, and it is counted.
-fn finish(s: &mut [u8], list: &[u8]) -> AnswerAnswer
+fn finish(s: &mut [u8], list: &[u8]) -> AnswerReply
     requires { ⌜ HasGeneration (now s) × (reads.has-duplicate (entry-slots 85 (now list)) ≡ false) × (reads.all-taken (entry-slots 85 (now list)) (generation-of (now s) .pending) ≡ true) × (record-count (reads.settle-members (generation-of (now s) .anchor .number) (members-of (now list)) (generation-of (now s) .top) ∷ generation-of (now s) .base) ≤ store-of (now s) .config .capacity) ⌝ }
-    ensures { λ r. ⌜ Stepped (answered-answer r) (now (s .exit)) (bytes-step (now (s .entry)) (alone (on-store (at-anchor (generation-of (now (s .entry)) .anchor) (calls.answer (members-of (now (list .entry)))))))) ⌝ }
+    ensures { λ r. ⌜ Stepped (answer-reply r) (now (s .exit)) (bytes-step (now (s .entry)) (alone (on-store (at-anchor (generation-of (now (s .entry)) .anchor) (calls.answer (members-of (now (list .entry)))))))) ⌝ }
 {
     let members = (list.len() / 85) as u64;
     let errors = awaiting::refused_members(list) as u64;
@@ -257,23 +245,27 @@ fn finish(s: &mut [u8], list: &[u8]) -> AnswerAnswer
     settling::settle_members(s, list);
     remove_all(s, list, 85);
     totals::record_answer(s, members, errors, valued, w - valued);
-    AnswerAnswer::Answered(members, errors, w)
+    AnswerReply::Answered {
+        members,
+        errors,
+        woken: w,
+    }
 }
 
 // An answer: a value wakes its slot's waiters and is put, a refusal wakes them with it.
-pub fn answer(s: &mut [u8], anchor: ReadAnchor, members: &[u8]) -> AnswerAnswer
+pub fn answer(s: &mut [u8], anchor: ReadAnchor, members: &[u8]) -> AnswerReply
     requires { ⌜ is-some (decode (now s)) ≡ true ⌝ }
-    ensures { λ r. ⌜ Stepped (answered-answer r) (now (s .exit)) (bytes-step (now (s .entry)) (alone (on-store (at-anchor anchor (calls.answer (members-of (now (members .entry)))))))) ⌝ }
+    ensures { λ r. ⌜ Stepped (answer-reply r) (now (s .exit)) (bytes-step (now (s .entry)) (alone (on-store (at-anchor anchor (calls.answer (members-of (now (members .entry)))))))) ⌝ }
 {
     let n = guard_answer(s, anchor, members, 85);
     if n != 0 {
-        return AnswerAnswer::No(n);
+        return AnswerReply::Refused(n);
     }
     if !all_taken(s, members, 85) {
-        return AnswerAnswer::No(26);
+        return AnswerReply::Refused(26);
     }
     if !has_space(s, members) {
-        return AnswerAnswer::No(23);
+        return AnswerReply::Refused(23);
     }
     finish(s, members)
 }

@@ -29,7 +29,7 @@ enum-known-a c = search needs
 refusal-line-requires : tie.Need-refusal-line-requires
 refusal-line-requires c κs =
     let s = c .before .before .before .before .before .before in
-    let e : s .args .a ≡ answer.No (c .before .before .a .given .0 .0) = search needs in
+    let e : s .args .a ≡ answer.Refused (c .before .before .a .given .0 .0) = search needs in
     room (now (s .args .entries)) e (s .args .at) (length (now (s .args .out))) (s .pre .1)
 
 enum-told : tie.Need-enum-told
@@ -127,7 +127,7 @@ same-length c = search needs
 returns : tie.Need-returns
 returns c =
     let s = c .before .before .before .before .before .before .before .before .before in
-    let e : s .args .a ≡ answer.No (c .before .before .before .before .before .a .given .0 .0) = search needs in
+    let e : s .args .a ≡ answer.Refused (c .before .before .before .before .before .a .given .0 .0) = search needs in
     found (now (s .args .entries)) e (c .before .before .refusal-line .ensures)
 
 same-length-2 : tie.Need-same-length-2

@@ -1,9 +1,9 @@
 -- `call_answers::of_install` meets its contract. Assumes nothing.
 use borrow.Author.Needs.{needs}
 use mathlib.Core.Path.{_≡_, sym, ap}
-use Rattle.unchecked_calls.specs.declared.Installed.{Installed}
-use Rattle.unchecked_calls.specs.declared.Installed.the-variants as install
-use Rattle.unchecked_calls.specs.Answers.{installed-answer}
+use Rattle.replies.specs.declared.InstallReply.{InstallReply}
+use Rattle.replies.specs.declared.InstallReply.the-variants as install
+use Rattle.replies.specs.Replies.{install-reply}
 use Rattle.call_answers.specs.Answers.{call-answer}
 use Rattle.call_answers.proofs.of_install.Statement.{statement}
 use Rattle.call_answers.proofs.of_install.Tie as tie
@@ -19,8 +19,8 @@ enum-told-2 c = search needs
 
 returns : tie.Need-returns
 returns c =
-    let e : c .before .before .before .args .a ≡ install.No (c .before .a .given .0 .0) = search needs in
-    ap (λ (x : Installed). call-answer (installed-answer x)) (sym e)
+    let e : c .before .before .before .args .a ≡ install.Refused (c .before .a .given .0 .0) = search needs in
+    ap (λ (x : InstallReply). call-answer (install-reply x)) (sym e)
 
 returns-2 : tie.Need-returns-2
 returns-2 c = search needs

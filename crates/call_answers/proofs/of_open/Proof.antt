@@ -1,9 +1,9 @@
 -- `call_answers::of_open` meets its contract. Assumes nothing.
 use borrow.Author.Needs.{needs}
 use mathlib.Core.Path.{_≡_, sym, ap}
-use Rattle.unchecked_calls.specs.declared.Opened.{Opened}
-use Rattle.unchecked_calls.specs.declared.Opened.the-variants as opening
-use Rattle.unchecked_calls.specs.Answers.{opened-answer}
+use Rattle.replies.specs.declared.OpenReply.{OpenReply}
+use Rattle.replies.specs.declared.OpenReply.the-variants as opening
+use Rattle.replies.specs.Replies.{open-reply}
 use Rattle.call_answers.specs.Answers.{call-answer}
 use Rattle.call_answers.proofs.of_open.Statement.{statement}
 use Rattle.call_answers.proofs.of_open.Tie as tie
@@ -16,8 +16,8 @@ enum-told c = search needs
 
 returns : tie.Need-returns
 returns c =
-    let e : c .before .before .before .args .a ≡ opening.No (c .before .a .given .0 .0) = search needs in
-    ap (λ (x : Opened). call-answer (opened-answer x)) (sym e)
+    let e : c .before .before .before .args .a ≡ opening.Refused (c .before .a .given .0 .0) = search needs in
+    ap (λ (x : OpenReply). call-answer (open-reply x)) (sym e)
 
 returns-2 : tie.Need-returns-2
 returns-2 c = search needs

@@ -1,9 +1,9 @@
 -- `call_answers::of_read` meets its contract. Assumes nothing.
 use borrow.Author.Needs.{needs}
 use mathlib.Core.Path.{_≡_, sym, ap}
-use Rattle.unchecked_reads.specs.declared.ReadAnswer.{ReadAnswer}
-use Rattle.unchecked_reads.specs.declared.ReadAnswer.the-variants as read
-use Rattle.unchecked_reads.specs.Answers.{read-answer}
+use Rattle.replies.specs.declared.ReadReply.{ReadReply}
+use Rattle.replies.specs.declared.ReadReply.the-variants as read
+use Rattle.replies.specs.Replies.{read-reply}
 use Rattle.call_answers.specs.Answers.{call-answer}
 use Rattle.call_answers.proofs.of_read.Statement.{statement}
 use Rattle.call_answers.proofs.of_read.Tie as tie
@@ -19,18 +19,18 @@ enum-known-a-3 c = search needs
 
 returns : tie.Need-returns
 returns c =
-    let e : c .before .before .before .args .a ≡ read.No (c .before .a .given .0 .0) = search needs in
-    ap (λ (x : ReadAnswer). call-answer (read-answer x)) (sym e)
+    let e : c .before .before .before .args .a ≡ read.Refused (c .before .a .given .0 .0) = search needs in
+    ap (λ (x : ReadReply). call-answer (read-reply x)) (sym e)
 
 returns-2 : tie.Need-returns-2
 returns-2 c =
     let e : c .before .before .before .args .a ≡ read.Value (c .before .a2 .given .0 .0) = search needs in
-    ap (λ (x : ReadAnswer). call-answer (read-answer x)) (sym e)
+    ap (λ (x : ReadReply). call-answer (read-reply x)) (sym e)
 
 returns-3 : tie.Need-returns-3
 returns-3 c =
-    let e : c .before .before .before .args .a ≡ read.Wait (c .before .a3 .given .0 .0) = search needs in
-    ap (λ (x : ReadAnswer). call-answer (read-answer x)) (sym e)
+    let e : c .before .before .before .args .a ≡ read.Waiting (c .before .a3 .given .0 .0) = search needs in
+    ap (λ (x : ReadReply). call-answer (read-reply x)) (sym e)
 
 pub of-read-spec : {M : Type 1} → statement M
 of-read-spec =

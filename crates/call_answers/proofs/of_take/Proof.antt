@@ -1,7 +1,7 @@
 -- `call_answers::of_take` meets its contract. Assumes nothing.
 use borrow.Author.Needs.{needs}
 use mathlib.Core.Path.{_≡_, sym, ap}
-use Rattle.unchecked_reads.specs.declared.TakeAnswer.the-variants as take
+use Rattle.replies.specs.declared.TakeReply.the-variants as take
 use Rattle.call_answers.specs.Answers.{take-as}
 use Rattle.call_answers.proofs.of_take.Statement.{statement}
 use Rattle.call_answers.proofs.of_take.Tie as tie
@@ -14,7 +14,7 @@ enum-known-a-2 c = search needs
 
 returns : tie.Need-returns
 returns c =
-    let e : c .before .before .before .args .a ≡ take.No (c .before .a .given .0 .0) = search needs in
+    let e : c .before .before .before .args .a ≡ take.Refused (c .before .a .given .0 .0) = search needs in
     ap take-as (sym e)
 
 returns-2 : tie.Need-returns-2

@@ -13,8 +13,8 @@ run-requires c κs = search needs
 enum-told : tie.Need-enum-told
 enum-told c = search needs
 
-enum-known-cursor : tie.Need-enum-known-cursor
-enum-known-cursor c = search needs
+enum-known-next : tie.Need-enum-known-next
+enum-known-next c = search needs
 
 enum-known-written : tie.Need-enum-known-written
 enum-known-written c = search needs
@@ -62,7 +62,7 @@ returns-2 c =
     let ru = c .before .before .before .before .before .before .before .before .before .before .before .before .before in
     let a = ru .before .before .before .before .before .before .before .before .before .before .before .before .args in
     part-listed (length (now (a .work))) (length (now (a .entries)) / 52) (now (a .list)) (a .from) (now (a .members)) (now (a .s)) (now (a .out)) _ _ (ru .run .result) (ru .run .ensures)
-    _ _ _ (c .before .cursor .given .1)
+    _ _ _ (c .before .next .given .1)
 
 same-length-11 : tie.Need-same-length-11
 same-length-11 c = search needs
@@ -92,7 +92,7 @@ run-part-spec =
     (tie.spec
     run-requires
     enum-told
-    enum-known-cursor
+    enum-known-next
     enum-known-written
     same-length
     same-length-2

@@ -7,7 +7,7 @@ use types.Run.{OneOf, miss}
 use denote.Enum.Declared.{tagOf}
 use Rattle.call_answers.proofs.CallAnswer.{the-type}
 use Rattle.call_answers.specs.declared.CallAnswer.{CallAnswer}
-use Rattle.call_answers.specs.declared.CallAnswer.the-variants.{No, Open, AnchorSame, AnchorFresh, Advance, Value, Nothing, Put, Wait, Take, Answer}
+use Rattle.call_answers.specs.declared.CallAnswer.the-variants.{Refused, Open, AnchorSame, AnchorFresh, Advance, Value, Nothing, Put, Wait, Take, Answer}
 use Rattle.call_progress.specs.Progress.{store-after}
 use borrow.Author.Needs.{needs}
 use Rattle.call_progress.proofs.known_after.Statement.{statement}
@@ -18,7 +18,7 @@ abbrev others : List ℕ
 others = 0 ∷ 2 ∷ 3 ∷ 4 ∷ 5 ∷ 6 ∷ 7 ∷ 8 ∷ 9 ∷ 10 ∷ []
 
 kept : (known : Bool) (a : CallAnswer) → OneOf others (tagOf the-type a) → known ≡ store-after known a
-kept known (No n) k = refl
+kept known (Refused n) k = refl
 kept known Open k = absurd (miss others 1 tt k)
 kept known AnchorSame k = refl
 kept known AnchorFresh k = refl

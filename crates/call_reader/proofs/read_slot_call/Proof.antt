@@ -3,7 +3,7 @@ use borrow.Author.Needs.{needs}
 use mathlib.Core.Path.{_≡_, ap}
 use lib.ListN.{length, drop}
 use denote.Ref.{now}
-use Rattle.call_list.specs.Listed.{on-slot}
+use Rattle.model.specs.Store.{on-slot}
 use Rattle.call_list.specs.CallList.{parsed, fault, parse-slot}
 use Rattle.reader.specs.declared.SlotRead.the-variants as slot
 use Rattle.reader.specs.Answers.{Reading, slot-answer, slot-next}
@@ -47,7 +47,7 @@ returns c =
     let a = c .before .before .before .before .before .before .args in
     let s = now (a .s) in
     let g = c .before .before .slot .given .0 in
-    (reading-from (ap (λ x. parsed x (drop (g .1 .0 .at) s)) (c .slot-call .ensures .0 s)) (reading-map (λ x. on-slot (slot-call (a .code) x)) (slot-read (c .before))), c .slot-call .ensures .1 s (g .1 .0 .at))
+    (reading-from (ap (λ x. parsed (on-slot x) (drop (g .1 .0 .at) s)) (c .slot-call .ensures)) (reading-map (λ x. on-slot (slot-call (a .code) x)) (slot-read (c .before))), tt)
 
 returns-2 : tie.Need-returns-2
 returns-2 c =

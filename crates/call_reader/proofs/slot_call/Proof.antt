@@ -5,15 +5,15 @@ use Rattle.call_reader.proofs.slot_call.Tie as tie
 
 returns : tie.Need-returns
 returns c =
-    (λ s. simp (eq-eqb _ _ (c .if1 .taken)), λ s n. tt)
+    simp (eq-eqb _ _ (c .if1 .taken))
 
 returns-2 : tie.Need-returns-2
 returns-2 c =
-    (λ s. simp (ne-eqb _ _ (c .before .if1 .left), eq-eqb _ _ (c .if2 .taken)), λ s n. tt)
+    simp (ne-eqb _ _ (c .before .if1 .left), eq-eqb _ _ (c .if2 .taken))
 
 returns-3 : tie.Need-returns-3
 returns-3 c =
-    (λ s. simp (ne-eqb _ _ (c .before .if1 .left), ne-eqb _ _ (c .if2 .left)), λ s n. tt)
+    simp (ne-eqb _ _ (c .before .if1 .left), ne-eqb _ _ (c .if2 .left))
 
 pub slot-call-spec : {M : Type 1} → statement M
 slot-call-spec = tie.close (tie.spec returns returns-2 returns-3)

@@ -66,8 +66,8 @@ returns c =
     let a = b .args in
     let l : List ℕ = now (a .list) in
     named-as (now (a .s)) (length (now (a .work))) (now (a .entries))
-    (ap₂ (λ (rs : List Address) (ws : List Write). on-store (store.advance (a .child) (a .parent-hash) (a .prepared .skip) rs ws)) (sym (addresses-lent l (a .prepared .relevance) (b .pre .1 .0))) (sym (writes-lent l (a .prepared .writes) (b .pre .1 .1))))
-    (advanced-as (now (a .s)) (length (now (a .work))) (now (a .entries)) (a .child) (a .parent-hash) (a .prepared .skip) _ _ (c .of-advance .ensures) (x .advance .ensures))
+    (ap₂ (λ (rs : List Address) (ws : List Write). on-store (store.advance (a .child) (a .parent-hash) (record { skip = a .prepared .skip; relevance = rs; writes = ws }))) (sym (addresses-lent l (a .prepared .relevance) (b .pre .1 .0))) (sym (writes-lent l (a .prepared .writes) (b .pre .1 .1))))
+    (advanced-as (now (a .s)) (length (now (a .work))) (now (a .entries)) (a .child) (a .parent-hash) _ (c .of-advance .ensures) (x .advance .ensures))
 
 pub advance-spec : {M : Type 1} → statement M
 advance-spec =

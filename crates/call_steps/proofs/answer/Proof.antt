@@ -4,7 +4,7 @@ use mathlib.Core.Path.{_≡_, sym, ap, _∙_}
 use mathlib.Core.List.{List}
 use lib.ListN.{take}
 use denote.Ref.{now}
-use Rattle.model.specs.Layers.{is-some}
+use Rattle.model.specs.Contents.{is-some}
 use Rattle.model.specs.Reads.{Member}
 use Rattle.model.specs.Entries.{members-of}
 use Rattle.model.specs.Store.{answer, at-anchor, on-store}

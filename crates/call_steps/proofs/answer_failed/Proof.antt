@@ -3,7 +3,7 @@ use mathlib.Core.Path.{sym, ap}
 use mathlib.Core.List.{List}
 use denote.Ref.{now}
 use Rattle.model.specs.declared.delta_snapshot.Slot.{Slot}
-use Rattle.model.specs.Layers.{is-some}
+use Rattle.model.specs.Contents.{is-some}
 use Rattle.model.specs.Store.{answer-failed, at-anchor, on-store}
 use Rattle.call_steps.proofs.Lent.{slots-lent}
 use Rattle.call_steps.proofs.Said.{plain-failed, silent-answer, stepped-as}

@@ -4,7 +4,7 @@ use mathlib.Core.Path.{_≡_, ap, subst}
 use mathlib.Core.List.{List}
 use lib.ListN.{length}
 use denote.Ref.{now}
-use Rattle.model.specs.Layers.{is-some}
+use Rattle.model.specs.Contents.{is-some}
 use Rattle.call_list.specs.Meaning.{default-limits}
 use Rattle.call_reader.specs.declared.ListedCall.{ListedCall}
 use Rattle.call_reader.specs.declared.ListedCall.the-variants.{OpenDefault, OpenWith, Install, Advance, Anchored}

@@ -9,7 +9,7 @@ use denote.Ref.{now}
 use borrow.Author.Tests.{not-true, not-false}
 use borrow.Author.Needs.{needs}
 use Rattle.final_writes.specs.declared.SeedCounts.{SeedCounts}
-use Rattle.final_writes.specs.declared.FinalWritesAnswer.the-variants.{Seeded}
+use Rattle.final_writes.specs.declared.FinalWritesReply.the-variants.{Seeded}
 use Rattle.final_writes.specs.FinalWrites.{counts-differ}
 use Rattle.bal_plan.specs.Plan.{plan-of}
 use Rattle.final_writes.specs.Lent.{lent-lists, lent-final-writes, Answers}

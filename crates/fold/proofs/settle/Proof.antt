@@ -1,14 +1,16 @@
 -- `fold::settle` meets its contract.
 use borrow.Author.Needs.{needs}
-use Prim.Native.Nat.{_*_}
-use lib.ListN.{drop, getD}
+use mathlib.Core.Path.{sym, ap}
+use lib.ListN.{getD}
 use denote.Ref.{now}
-use Rattle.layout.specs.Layout.{record-size, record-width}
-use Rattle.image.specs.Image.{words-of}
+use Rattle.model.specs.Layers.{Record}
+use Rattle.image.specs.Image.{record-words, read-record}
 use Rattle.image.specs.Area.{records-of}
+use Rattle.records.specs.Records.{words-at}
 use Rattle.order.specs.Index.{no-record}
-use Rattle.fold.specs.Stored.{renewed-words}
-use Rattle.fold.proofs.StoredLaws.{settled-yes, settled-no, renewed-is}
+use Rattle.order.proofs.RecordLaws.{record-at}
+use Rattle.fold.specs.Stored.{renewed}
+use Rattle.fold.proofs.StoredLaws.{settled-yes, settled-no}
 use Rattle.fold.proofs.settle.Statement.{statement}
 use Rattle.fold.proofs.settle.Tie as tie
 
@@ -25,10 +27,9 @@ returns : tie.Need-returns
 returns c =
     let w = c .before .before in
     let th = w .before .before in
-    let st = th .before .before .before in
-    let a = st .args in
-    settled-yes (a .keep) (a .used) (a .c) (getD (records-of (a .n) (now (a .s))) (a .i) no-record) (renewed-words (a .used) (words-of record-width (drop (a .i * record-size) (now (a .s))))) (now (a .out)) (th .if1 .taken)
-    (renewed-is (a .used) (a .n) (a .i) (now (a .s)) (search needs) (st .pre .1 (th .if1 .taken))) (w .write-record .ensures)
+    let a = th .before .before .before .args in
+    settled-yes (a .keep) (a .used) (a .c) (getD (records-of (a .n) (now (a .s))) (a .i) no-record) (record-words (renewed (a .used) (read-record (words-at (a .i) (now (a .s)))))) (now (a .out)) (th .if1 .taken)
+    (ap (λ (r : Record). record-words (renewed (a .used) r)) (sym (record-at (a .n) (a .i) (now (a .s)) (search needs)))) (w .write-record .ensures)
 
 returns-2 : tie.Need-returns-2
 returns-2 c =

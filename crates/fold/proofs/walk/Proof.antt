@@ -1,7 +1,7 @@
 -- `fold::walk` meets its contract.
 use borrow.Author.Needs.{needs}
 use mathlib.Core.Path.{_≡_, refl, sym, ap, ap₂, subst, _∙_}
-use mathlib.Core.Bool.{Bool, true, _||_, cond}
+use mathlib.Core.Bool.{Bool, _||_, cond}
 use mathlib.Core.Logic.{⊎-elim}
 use mathlib.Core.List.{List, []}
 use Prim.Native.Nat.{ℕ, _+_, _*_, _≤_, _<_, _-_, max}
@@ -12,26 +12,25 @@ use denote.Ref.{now}
 use mir.Syntax.{w64}
 use mir.Val.{Fits}
 use Rattle.layout.specs.Layout.{record-size}
-use Rattle.model.specs.Layers.{Content, Layer}
-use Rattle.model.proofs.SlotLaws.{and-left, not-both}
+use Rattle.model.specs.declared.delta_snapshot.Content.{Content}
+use Rattle.model.specs.Contents.{use-of, has-value}
+use Rattle.model.specs.Layers.{Layer}
 use Rattle.image.specs.Area.{records-of}
 use Rattle.order.specs.Index.{numbers, Names, up-from, no-record}
 use Rattle.order.proofs.IndexLaws.{all-at, names-up}
 use Rattle.order.proofs.MergeLaws.{all-ordered}
-use Rattle.order.specs.Walk.{use-of, has-value}
 use Rattle.order.proofs.WalkLaws.{turn-last, turn-more, bit-small, walk-end}
 use Rattle.fold.specs.Stored.{kept, stored, Stored}
 use Rattle.fold.proofs.EmitLaws.{emit-end}
 use Rattle.fold.proofs.BestLaws.{Best, begin, betters, gives, drops}
 use Rattle.fold.proofs.StoredLaws.{stored-nil, stored-with, kept-small}
-use Rattle.fold.proofs.TurnLaws.{gathered, to-give, to-drop, gives-all, drops-all, choose-le, choose-best, still-valued, fold-last, fold-more}
+use Rattle.fold.proofs.TurnLaws.{gathered, to-give, to-drop, gives-all, drops-all, choose-le, choose-best, fold-last, fold-more}
 use Rattle.fold.proofs.walk.Statement.{statement}
 use Rattle.fold.proofs.walk.Tie as tie
 
 abbrev Inv-loop : tie.InvT-loop
 Inv-loop s n number ix out₀ least left₀ dropped₀ any₀ low₀ at₀ j₀ out left dropped any low at j =
     (j ≤ length ix) × (left ≤ j) × (dropped ≤ j) × (at ≤ n - 1) × (length out ≡ length out₀)
-    × (any ≡ true → has-value (getD (records-of n s) at no-record .content) ≡ true)
     × (left + length (to-give least n s (gathered (records-of n s) any low at) (drop j ix)) ≡ length (to-give least n s (begin (records-of n s)) ix))
     × (stored left (to-give least n s (gathered (records-of n s) any low at) (drop j ix)) out ≡ stored 0 (to-give least n s (begin (records-of n s)) ix) out₀)
     × (dropped + to-drop least n s (gathered (records-of n s) any low at) (drop j ix) ≡ to-drop least n s (begin (records-of n s)) ix)
@@ -58,19 +57,6 @@ chosen c =
     let q : c .choose .result ≤ a .n - 1 = subst (λ (k : ℕ). k ≤ a .n - 1) (sym (c .choose .ensures)) (choose-le (c .before .before .before .before .valued .result) _ (l .loop .at) (a .n - 1) (omega arith) (l .loop .inv .3)) in
     omega arith
 
--- and has a value if any has
-has-one : (c : tie.After-choose Inv-loop μ-loop) →
-    let l = c .before .before .before .before .before .before .before in
-    let a = l .before .before .before .before .before .args in
-    c .before .before .before .either .result ≡ true → has-value (getD (records-of (a .n) (now (a .s))) (c .choose .result) no-record .content) ≡ true
-has-one c q =
-    let va = c .before .before .before .before in
-    let l = va .before .before .before in
-    let a = l .before .before .before .before .before .args in
-    let rs = records-of (a .n) (now (a .s)) in
-    subst (λ (k : ℕ). has-value (getD rs k no-record .content) ≡ true) (sym (c .choose .ensures))
-    (still-valued rs (l .loop .any) (va .valued .result) (getD (now (a .ix)) (l .loop .j) 0) (l .loop .at) (va .valued .ensures) (l .loop .inv .5) (sym (c .before .before .before .either .ensures) ∙ q))
-
 -- where the branches meet
 met : (c : tie.Joined1 Inv-loop μ-loop) →
     let l = c .before .before .before .before .before .before .before .before .before in
@@ -80,7 +66,6 @@ met : (c : tie.Joined1 Inv-loop μ-loop) →
     let ix = now (a .ix) in
     let m : Best = gathered rs (c .if1 .any) (c .if1 .low) (c .if1 .at) in
     (c .if1 .left ≤ l .loop .j + 1) × (c .if1 .dropped ≤ l .loop .j + 1) × (c .if1 .at ≤ a .n - 1) × (length (c .if1 .out) ≡ length (now (a .out)))
-    × (c .if1 .any ≡ true → has-value (getD rs (c .if1 .at) no-record .content) ≡ true)
     × (c .if1 .left + length (to-give least (a .n) (now (a .s)) m (drop (l .loop .j + 1) ix)) ≡ length (to-give least (a .n) (now (a .s)) (begin rs) ix))
     × (stored (c .if1 .left) (to-give least (a .n) (now (a .s)) m (drop (l .loop .j + 1) ix)) (c .if1 .out) ≡ stored 0 (to-give least (a .n) (now (a .s)) (begin rs) ix) (now (a .out)))
     × (c .if1 .dropped + to-drop least (a .n) (now (a .s)) m (drop (l .loop .j + 1) ix) ≡ to-drop least (a .n) (now (a .s)) (begin rs) ix)
@@ -120,27 +105,25 @@ met c =
     let eb : b2 ≡ begin rs = λ i. record { any = u .10 i; low = u .11 i; best = getD rs (u .12 i) no-record } in
     let e = sym (d .ends .ensures) ∙ u .0 .taken in
     let p : Stored (l .loop .left) (u .3 .result) (gives least b1) (l .loop .out) o = subst (λ (b : Bool). Stored (l .loop .left) (u .3 .result) (kept b (lg .larger .result) (getD rs (ch .choose .result) no-record)) (l .loop .out) o) (u .1 .ensures) (u .3 .ensures) in
-    let z = fold-last least (a .n) s ix b0 j h (l .loop .left) (u .3 .result) m (l .loop .out) o whole b1 b2 ea (l .loop .inv .6) (l .loop .inv .7) eb e p room in (
+    let z = fold-last least (a .n) s ix b0 j h (l .loop .left) (u .3 .result) m (l .loop .out) o whole b1 b2 ea (l .loop .inv .5) (l .loop .inv .6) eb e p room in (
       omega (arith, u .8, p .next-is, l .loop .inv .1, kept-small (u .1 .result) (lg .larger .result) (getD rs (ch .choose .result) no-record)),
       omega (arith, u .9, u .6 .ensures, l .loop .inv .2, bit-small (ltb (lg .larger .result) least)),
       omega (arith, u .12),
       ap length (u .7) ∙ u .3 .kept .1 .1 .1 .1 .1 .0 ∙ l .loop .inv .4,
-      (λ y. not-both y (u .10)),
       ap (λ (i : ℕ). i + length (to-give least (a .n) s b2 (drop (j + 1) ix))) (u .8) ∙ z .0,
       ap₂ (λ (i : ℕ) (v : List ℕ). stored i (to-give least (a .n) s b2 (drop (j + 1) ix)) v) (u .8) (u .7) ∙ z .1,
-      turn-last (betters rs) (begin rs) (drops least) ss ix b0 j h (l .loop .dropped) (c .if1 .dropped) t b1 b2 (l .loop .inv .8) ea e (u .9 ∙ ap (λ (i : ℕ). l .loop .dropped + i) (u .6 .ensures)) eb,
+      turn-last (betters rs) (begin rs) (drops least) ss ix b0 j h (l .loop .dropped) (c .if1 .dropped) t b1 b2 (l .loop .inv .7) ea e (u .9 ∙ ap (λ (i : ℕ). l .loop .dropped + i) (u .6 .ensures)) eb,
     ))
     (λ u. let eb : b2 ≡ b1 = λ i. record { any = u .4 i; low = u .5 i; best = getD rs (u .6 i) no-record } in
     let e = sym (d .ends .ensures) ∙ u .0 .left in
-    let z = fold-more least (a .n) s ix b0 j h (l .loop .left) (c .if1 .left) m (l .loop .out) (c .if1 .out) whole b1 b2 ea (l .loop .inv .6) (l .loop .inv .7) eb e (u .2) (u .1) in (
+    let z = fold-more least (a .n) s ix b0 j h (l .loop .left) (c .if1 .left) m (l .loop .out) (c .if1 .out) whole b1 b2 ea (l .loop .inv .5) (l .loop .inv .6) eb e (u .2) (u .1) in (
       omega (arith, u .2, l .loop .inv .1),
       omega (arith, u .3, l .loop .inv .2),
       omega (arith, u .6),
       ap length (u .1) ∙ l .loop .inv .4,
-      (λ y. ap (λ (i : ℕ). has-value (getD rs i no-record .content)) (u .6) ∙ has-one ch (sym (u .4) ∙ y)),
       z .0,
       z .1,
-      turn-more (betters rs) (begin rs) (drops least) ss ix b0 j h (l .loop .dropped) (c .if1 .dropped) t b1 b2 (l .loop .inv .8) ea e (u .3) eb,
+      turn-more (betters rs) (begin rs) (drops least) ss ix b0 j h (l .loop .dropped) (c .if1 .dropped) t b1 b2 (l .loop .inv .7) ea e (u .3) eb,
     ))
     (c .if1 .came)
 
@@ -148,7 +131,7 @@ oldest-requires : tie.Need-oldest-requires Inv-loop μ-loop
 oldest-requires c κs = search needs
 
 loop-holds : tie.Need-loop-holds Inv-loop μ-loop
-loop-holds c = (search needs, search needs, search needs, search needs, refl, (λ y. not-both y refl), omega arith, refl, omega arith)
+loop-holds c = (search needs, search needs, search needs, search needs, refl, omega arith, refl, omega arith)
 
 mul-i : tie.Need-mul-i Inv-loop μ-loop
 mul-i c = search needs
@@ -182,7 +165,7 @@ settle-requires c κs =
     let ch = c .before .before .before .before in
     let l = ch .before .before .before .before .before .before .before in
     let st = l .before .before .before .before .before in
-    ((st .pre .0, chosen ch, omega (arith, st .pre .1, l .loop .inv .4, l .loop .inv .1)), λ y. has-one ch (and-left (ch .before .before .before .either .result) _ (sym (c .before .served .ensures) ∙ y)))
+    (st .pre .0, chosen ch, omega (arith, st .pre .1, l .loop .inv .4, l .loop .inv .1))
 
 bit-requires : tie.Need-bit-requires Inv-loop μ-loop
 bit-requires c κs = search needs
@@ -200,7 +183,7 @@ loop-less : tie.Need-loop-less Inv-loop μ-loop
 loop-less c = search needs
 
 loop-again : tie.Need-loop-again Inv-loop μ-loop
-loop-again c = let w = met c in (search needs, w .0, w .1, w .2, w .3, w .4, w .5, w .6, w .7)
+loop-again c = let w = met c in (search needs, w .0, w .1, w .2, w .3, w .4, w .5, w .6)
 
 same-length : tie.Need-same-length Inv-loop μ-loop
 same-length c = c .before .loop .inv .4
@@ -222,8 +205,8 @@ returns c =
     let f = ap (λ (o : ℕ). to-give o (a .n) s (begin rs) ix) (l .before .oldest .ensures) ∙ gives-all (a .retention) (a .number) (a .n) s ix b (st .pre .0) (st .pre .2) in
     let z : l .loop .left ≡ l .loop .left + 0 = omega arith in
     let y : l .loop .dropped ≡ to-drop least (a .n) s (begin rs) ix = omega arith in (
-      sym (stored-nil (l .loop .left) (l .loop .out)) ∙ ap (λ (x : Layer). stored (l .loop .left) x (l .loop .out)) (sym e) ∙ l .loop .inv .7 ∙ ap (λ (x : Layer). stored 0 x (now (a .out))) f ∙ stored-with _ (now (a .out)),
-      z ∙ ap (λ (x : Layer). l .loop .left + length x) (sym e) ∙ l .loop .inv .6 ∙ ap length f,
+      sym (stored-nil (l .loop .left) (l .loop .out)) ∙ ap (λ (x : Layer). stored (l .loop .left) x (l .loop .out)) (sym e) ∙ l .loop .inv .6 ∙ ap (λ (x : Layer). stored 0 x (now (a .out))) f ∙ stored-with _ (now (a .out)),
+      z ∙ ap (λ (x : Layer). l .loop .left + length x) (sym e) ∙ l .loop .inv .5 ∙ ap length f,
       y ∙ ap (λ (o : ℕ). to-drop o (a .n) s (begin rs) ix) (l .before .oldest .ensures) ∙ drops-all (a .retention) (a .number) (a .n) s ix b (st .pre .0) (st .pre .2),
     )
 

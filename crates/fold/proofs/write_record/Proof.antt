@@ -1,89 +1,84 @@
 -- `fold::write_record` meets its contract.
 use borrow.Author.Needs.{needs}
-use mathlib.Core.Path.{_≡_, refl}
-use mathlib.Core.List.{List}
-use Prim.Native.Nat.{ℕ, _*_, _-_, _≤_}
+use mathlib.Core.Path.{_≡_, ap, _∙_}
+use mathlib.Core.Option.{some}
+use Prim.Native.Nat.{_+_, _-_, _*_}
 use native.Mathlib.Omega.{arith}
-use lib.ListN.{length, drop, take}
 use denote.Ref.{now}
-use Rattle.layout.specs.Layout.{record-size, record-width}
+use Rattle.layout.specs.Layout.{record-size, slot-size}
+use Rattle.model.specs.declared.delta_snapshot.Content.{Content}
+use Rattle.model.specs.Contents.{touch}
 use Rattle.words.specs.Parts.{placed}
-use Rattle.image.specs.Image.{words-of, bytes-of}
-use Rattle.fold.specs.Stored.{renewed-words}
-use Rattle.fold.proofs.StoredLaws.{placed-none, placed-word, placed-all, length-renewed}
+use Rattle.image.specs.Image.{bytes-of, record-words, read-slot, read-record}
+use Rattle.records.specs.Records.{words-at}
+use Rattle.fold.proofs.StoredLaws.{record-placed}
 use Rattle.fold.proofs.write_record.Statement.{statement}
 use Rattle.fold.proofs.write_record.Tie as tie
 
-abbrev Inv-loop : tie.InvT-loop
-Inv-loop s i used out₀ c k₀ out k =
-    (k ≤ record-width) × (length out ≡ length out₀) × (out ≡ placed (c * record-size) (bytes-of (take k (renewed-words used (words-of record-width (drop (i * record-size) s))))) out₀)
+mul-from : tie.Need-mul-from
+mul-from c = search needs
 
-abbrev μ-loop : tie.MeasureT-loop
-μ-loop s i used out₀ c k₀ out k = record-width - k
+mul-to : tie.Need-mul-to
+mul-to c = search needs
 
-loop-holds : tie.Need-loop-holds Inv-loop μ-loop
-loop-holds c =
-    let a = c .before .before .args in
-    (search needs, refl, placed-none (a .c * record-size) (renewed-words (a .used) (words-of record-width (drop (a .i * record-size) (now (a .s))))) (now (a .out)))
+add-place : tie.Need-add-place
+add-place c = search needs
 
-word-requires : tie.Need-word-requires Inv-loop μ-loop
-word-requires c κs = search needs
+sub-place : tie.Need-sub-place
+sub-place c = search needs
 
-mul-write-u64 : tie.Need-mul-write-u64 Inv-loop μ-loop
-mul-write-u64 c = search needs
+part-place-start : tie.Need-part-place-start
+part-place-start c = search needs
 
-mul-write-u64-2 : tie.Need-mul-write-u64-2 Inv-loop μ-loop
-mul-write-u64-2 c = search needs
+part-place-end : tie.Need-part-place-end
+part-place-end c = search needs
 
-add-write-u64 : tie.Need-add-write-u64 Inv-loop μ-loop
-add-write-u64 c = search needs
+place-requires : tie.Need-place-requires
+place-requires c κs = search needs
 
-write-u64-requires : tie.Need-write-u64-requires Inv-loop μ-loop
-write-u64-requires c κs = search needs
+content-requires : tie.Need-content-requires
+content-requires c κs = search needs
 
-add-k : tie.Need-add-k Inv-loop μ-loop
-add-k c = search needs
+add-write-content : tie.Need-add-write-content
+add-write-content c = search needs
 
-loop-less : tie.Need-loop-less Inv-loop μ-loop
-loop-less c = search needs
+touch-requires : tie.Need-touch-requires
+touch-requires c κs = search needs
 
-loop-again : tie.Need-loop-again Inv-loop μ-loop
-loop-again c =
-    let wu = c .before .before in
-    let wd = wu .before .before in
-    let l = wd .before .before in
-    let a = l .before .before .before .args in
-    let w : List ℕ = renewed-words (a .used) (words-of record-width (drop (a .i * record-size) (now (a .s)))) in
-    let n : length w ≡ record-width = length-renewed (a .used) (drop (a .i * record-size) (now (a .s))) in (
-      search needs,
-      search needs,
-      placed-word (a .c * record-size) (l .loop .k) (wd .word .result) w (now (a .out)) (omega arith) (omega arith) (wd .word .ensures) (l .loop .inv .2) (wu .write-u64 .ensures),
-    )
+write-content-requires : tie.Need-write-content-requires
+write-content-requires c κs = search needs
 
-same-length : tie.Need-same-length Inv-loop μ-loop
-same-length c = c .before .loop .inv .1
+same-length : tie.Need-same-length
+same-length c = search needs
 
-returns : tie.Need-returns Inv-loop μ-loop
+returns : tie.Need-returns
 returns c =
-    let l = c .before in
-    let a = l .before .before .before .args in
-    let w : List ℕ = renewed-words (a .used) (words-of record-width (drop (a .i * record-size) (now (a .s)))) in
-    placed-all (a .c * record-size) (l .loop .k) w (now (a .out)) (omega (arith, length-renewed (a .used) (drop (a .i * record-size) (now (a .s))))) (l .loop .inv .2)
+    let w = c .before .before in
+    let u = w .before in
+    let r = u .before .before in
+    let p = r .before .before .before in
+    let k = p .before .before .before .before in
+    let a = k .before .args in
+    let s = now (a .s) in
+    let o = now (a .out) in
+    let q : u .touch .result ≡ touch (a .used) (some (read-record (words-at (a .i) s) .content)) = u .touch .ensures ∙ ap (λ (x : Content). touch (a .used) (some x)) (r .content .ensures) in
+    record-placed (a .c * record-size) (a .i * record-size) (a .i * record-size + slot-size - a .i * record-size) (u .touch .result) s o (omega arith) (λ j. omega (arith, k .shared-slice-known .given j)) (omega arith) (omega arith) (p .place .ensures) (w .write-content .ensures)
+    ∙ ap (λ (x : Content). placed (a .c * record-size) (bytes-of (record-words (record { slot = read-slot (words-at (a .i) s); content = x }))) o) q
 
 pub write-record-spec : {M : Type 1} → statement M
 write-record-spec =
     tie.close
     (tie.spec
-    Inv-loop
-    μ-loop
-    loop-holds
-    word-requires
-    mul-write-u64
-    mul-write-u64-2
-    add-write-u64
-    write-u64-requires
-    add-k
-    loop-less
-    loop-again
+    mul-from
+    mul-to
+    add-place
+    sub-place
+    part-place-start
+    part-place-end
+    place-requires
+    content-requires
+    add-write-content
+    touch-requires
+    write-content-requires
     same-length
     returns)

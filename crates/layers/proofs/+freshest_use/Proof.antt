@@ -10,8 +10,7 @@ use Rattle.layers.proofs.freshest_use.Reads as freshest-use
 use Rattle.layers.proofs.freshest_use.Kinds as freshest-use-kinds
 use Rattle.layers.proofs.+freshest_use.Lts-freshest_use as freshest-use-lts
 use Rattle.layers.proofs.later.Reads as later-reads
-use Rattle.layers.proofs.layer_entry.Reads as layer-entry-reads
-use Rattle.layers.proofs.use_of.Reads as use-of-reads
+use Rattle.layers.proofs.layer_use.Reads as layer-use-reads
 use Rattle.layers.proofs.+freshest_use.{statement}
 use Rattle.layers.proofs.+freshest_use.Tie.{close}
 
@@ -31,10 +30,8 @@ freshest-use-below t =
     freshest-use.Pre
 
 freshest-use-returns : (t : ℕ) → freshest-use-lts.Need-returns (
-  layer-entry-reads.Asked,
-  layer-entry-reads.Learnt,
-  use-of-reads.Asked,
-  use-of-reads.Learnt,
+  layer-use-reads.Asked,
+  layer-use-reads.Learnt,
   freshest-use-below t,
   freshest-use.Post,
   later-reads.Asked,
@@ -42,47 +39,29 @@ freshest-use-returns : (t : ℕ) → freshest-use-lts.Need-returns (
 ) (freshest-use-at t) freshest-use.Post
 freshest-use-returns t c = fresh-zero (generation-of (now (c .before .before .args .s)) .base) _ _ (c .if1 .taken)
 
-freshest-use-sub-layer-entry : (t : ℕ) → freshest-use-lts.Need-sub-layer-entry (
-  layer-entry-reads.Asked,
-  layer-entry-reads.Learnt,
-  use-of-reads.Asked,
-  use-of-reads.Learnt,
+freshest-use-sub-layer-use : (t : ℕ) → freshest-use-lts.Need-sub-layer-use (
+  layer-use-reads.Asked,
+  layer-use-reads.Learnt,
   freshest-use-below t,
   freshest-use.Post,
   later-reads.Asked,
   later-reads.Learnt,
 ) (freshest-use-at t) freshest-use.Post
-freshest-use-sub-layer-entry t c = search needs
+freshest-use-sub-layer-use t c = search needs
 
-freshest-use-layer-entry-requires : (t : ℕ) → freshest-use-lts.Need-layer-entry-requires (
-  layer-entry-reads.Asked,
-  layer-entry-reads.Learnt,
-  use-of-reads.Asked,
-  use-of-reads.Learnt,
+freshest-use-layer-use-requires : (t : ℕ) → freshest-use-lts.Need-layer-use-requires (
+  layer-use-reads.Asked,
+  layer-use-reads.Learnt,
   freshest-use-below t,
   freshest-use.Post,
   later-reads.Asked,
   later-reads.Learnt,
 ) (freshest-use-at t) freshest-use.Post
-freshest-use-layer-entry-requires t c κs = search needs
-
-freshest-use-use-of-requires : (t : ℕ) → freshest-use-lts.Need-use-of-requires (
-  layer-entry-reads.Asked,
-  layer-entry-reads.Learnt,
-  use-of-reads.Asked,
-  use-of-reads.Learnt,
-  freshest-use-below t,
-  freshest-use.Post,
-  later-reads.Asked,
-  later-reads.Learnt,
-) (freshest-use-at t) freshest-use.Post
-freshest-use-use-of-requires t c κs = search needs
+freshest-use-layer-use-requires t c κs = search needs
 
 freshest-use-sub-freshest-use : (t : ℕ) → freshest-use-lts.Need-sub-freshest-use (
-  layer-entry-reads.Asked,
-  layer-entry-reads.Learnt,
-  use-of-reads.Asked,
-  use-of-reads.Learnt,
+  layer-use-reads.Asked,
+  layer-use-reads.Learnt,
   freshest-use-below t,
   freshest-use.Post,
   later-reads.Asked,
@@ -91,10 +70,8 @@ freshest-use-sub-freshest-use : (t : ℕ) → freshest-use-lts.Need-sub-freshest
 freshest-use-sub-freshest-use t c = search needs
 
 freshest-use-freshest-use-requires : (t : ℕ) → freshest-use-lts.Need-freshest-use-requires (
-  layer-entry-reads.Asked,
-  layer-entry-reads.Learnt,
-  use-of-reads.Asked,
-  use-of-reads.Learnt,
+  layer-use-reads.Asked,
+  layer-use-reads.Learnt,
   freshest-use-below t,
   freshest-use.Post,
   later-reads.Asked,
@@ -103,10 +80,8 @@ freshest-use-freshest-use-requires : (t : ℕ) → freshest-use-lts.Need-freshes
 freshest-use-freshest-use-requires t c κs = search needs
 
 freshest-use-later-requires : (t : ℕ) → freshest-use-lts.Need-later-requires (
-  layer-entry-reads.Asked,
-  layer-entry-reads.Learnt,
-  use-of-reads.Asked,
-  use-of-reads.Learnt,
+  layer-use-reads.Asked,
+  layer-use-reads.Learnt,
   freshest-use-below t,
   freshest-use.Post,
   later-reads.Asked,
@@ -115,25 +90,21 @@ freshest-use-later-requires : (t : ℕ) → freshest-use-lts.Need-later-requires
 freshest-use-later-requires t c κs = search needs
 
 freshest-use-returns-2 : (t : ℕ) → freshest-use-lts.Need-returns-2 (
-  layer-entry-reads.Asked,
-  layer-entry-reads.Learnt,
-  use-of-reads.Asked,
-  use-of-reads.Learnt,
+  layer-use-reads.Asked,
+  layer-use-reads.Learnt,
   freshest-use-below t,
   freshest-use.Post,
   later-reads.Asked,
   later-reads.Learnt,
 ) (freshest-use-at t) freshest-use.Post
 freshest-use-returns-2 t c =
-    let st = c .before .before .before .before .before .before in
-    fresh-more (generation-of (now (st .args .s)) .base) _ _ _ _ _ _ (c .before .before .before .before .if1 .left) (st .pre .1 .1) (c .later .ensures) (c .before .before .use-of .ensures) (c .before .before .before .layer-entry .ensures) (c .before .freshest-use .ensures)
+    let st = c .before .before .before .before .before in
+    fresh-more (generation-of (now (st .args .s)) .base) _ _ _ _ _ (c .before .before .before .if1 .left) (st .pre .1 .1) (c .later .ensures) (c .before .before .layer-use .ensures) (c .before .freshest-use .ensures)
 
 pub +freshest-use-spec : {M : Type 1} → statement M
 +freshest-use-spec = close μ-freshest-use λ t. freshest-use-lts.spec (
-  layer-entry-reads.Asked,
-  layer-entry-reads.Learnt,
-  use-of-reads.Asked,
-  use-of-reads.Learnt,
+  layer-use-reads.Asked,
+  layer-use-reads.Learnt,
   freshest-use-below t,
   freshest-use.Post,
   later-reads.Asked,
@@ -142,9 +113,8 @@ pub +freshest-use-spec : {M : Type 1} → statement M
     (freshest-use-at t)
     freshest-use.Post
     (freshest-use-returns t)
-    (freshest-use-sub-layer-entry t)
-    (freshest-use-layer-entry-requires t)
-    (freshest-use-use-of-requires t)
+    (freshest-use-sub-layer-use t)
+    (freshest-use-layer-use-requires t)
     (freshest-use-sub-freshest-use t)
     (freshest-use-freshest-use-requires t)
     (freshest-use-later-requires t)

@@ -9,8 +9,7 @@ use borrow.Fn.PlainCycle.{Measures, is, falls, and}
 use Rattle.layers.proofs.held_value.Reads as held-value
 use Rattle.layers.proofs.held_value.Kinds as held-value-kinds
 use Rattle.layers.proofs.+held_value.Lts-held_value as held-value-lts
-use Rattle.layers.proofs.layer_entry.Reads as layer-entry-reads
-use Rattle.layers.proofs.value_of.Reads as value-of-reads
+use Rattle.layers.proofs.layer_value.Reads as layer-value-reads
 use Rattle.layers.proofs.+held_value.{statement}
 use Rattle.layers.proofs.+held_value.Tie.{close}
 
@@ -26,124 +25,93 @@ held-value-below t =
     and 1 held-value-kinds.ps (falls 1 held-value-kinds.ps _<_ μ-held-value t) held-value.Pre
 
 held-value-returns : (t : ℕ) → held-value-lts.Need-returns (
-  layer-entry-reads.Asked,
-  layer-entry-reads.Learnt,
-  value-of-reads.Asked,
-  value-of-reads.Learnt,
+  layer-value-reads.Asked,
+  layer-value-reads.Learnt,
   held-value-below t,
   held-value.Post,
 ) (held-value-at t) held-value.Post
 held-value-returns t c = held-zero (generation-of (now (c .before .before .args .s)) .base) _ _ (c .if1 .taken)
 
-held-value-sub-layer-entry : (t : ℕ) → held-value-lts.Need-sub-layer-entry (
-  layer-entry-reads.Asked,
-  layer-entry-reads.Learnt,
-  value-of-reads.Asked,
-  value-of-reads.Learnt,
+held-value-sub-layer-value : (t : ℕ) → held-value-lts.Need-sub-layer-value (
+  layer-value-reads.Asked,
+  layer-value-reads.Learnt,
   held-value-below t,
   held-value.Post,
 ) (held-value-at t) held-value.Post
-held-value-sub-layer-entry t c = search needs
+held-value-sub-layer-value t c = search needs
 
-held-value-layer-entry-requires : (t : ℕ) → held-value-lts.Need-layer-entry-requires (
-  layer-entry-reads.Asked,
-  layer-entry-reads.Learnt,
-  value-of-reads.Asked,
-  value-of-reads.Learnt,
+held-value-layer-value-requires : (t : ℕ) → held-value-lts.Need-layer-value-requires (
+  layer-value-reads.Asked,
+  layer-value-reads.Learnt,
   held-value-below t,
   held-value.Post,
 ) (held-value-at t) held-value.Post
-held-value-layer-entry-requires t c κs = search needs
-
-held-value-value-of-requires : (t : ℕ) → held-value-lts.Need-value-of-requires (
-  layer-entry-reads.Asked,
-  layer-entry-reads.Learnt,
-  value-of-reads.Asked,
-  value-of-reads.Learnt,
-  held-value-below t,
-  held-value.Post,
-) (held-value-at t) held-value.Post
-held-value-value-of-requires t c κs = search needs
+held-value-layer-value-requires t c κs = search needs
 
 held-value-enum-told : (t : ℕ) → held-value-lts.Need-enum-told (
-  layer-entry-reads.Asked,
-  layer-entry-reads.Learnt,
-  value-of-reads.Asked,
-  value-of-reads.Learnt,
+  layer-value-reads.Asked,
+  layer-value-reads.Learnt,
   held-value-below t,
   held-value.Post,
 ) (held-value-at t) held-value.Post
 held-value-enum-told t c = search needs
 
 held-value-enum-told-2 : (t : ℕ) → held-value-lts.Need-enum-told-2 (
-  layer-entry-reads.Asked,
-  layer-entry-reads.Learnt,
-  value-of-reads.Asked,
-  value-of-reads.Learnt,
+  layer-value-reads.Asked,
+  layer-value-reads.Learnt,
   held-value-below t,
   held-value.Post,
 ) (held-value-at t) held-value.Post
 held-value-enum-told-2 t c = search needs
 
 held-value-returns-2 : (t : ℕ) → held-value-lts.Need-returns-2 (
-  layer-entry-reads.Asked,
-  layer-entry-reads.Learnt,
-  value-of-reads.Asked,
-  value-of-reads.Learnt,
+  layer-value-reads.Asked,
+  layer-value-reads.Learnt,
   held-value-below t,
   held-value.Post,
 ) (held-value-at t) held-value.Post
 held-value-returns-2 t c =
-    let st = c .before .before .before .before .before .before in
-    held-here (generation-of (now (st .args .s)) .base) _ _ _ _ _ (c .before .before .before .before .if1 .left) (st .pre .1 .1) (c .before .before .value-of .ensures) (c .before .before .before .layer-entry .ensures) (c .enum-told2 .given .1)
+    let st = c .before .before .before .before .before in
+    held-here (generation-of (now (st .args .s)) .base) _ _ _ _ (c .before .before .before .if1 .left) (st .pre .1 .1) (c .before .before .layer-value .ensures) (c .enum-told2 .given .1)
 
 held-value-sub-held-value : (t : ℕ) → held-value-lts.Need-sub-held-value (
-  layer-entry-reads.Asked,
-  layer-entry-reads.Learnt,
-  value-of-reads.Asked,
-  value-of-reads.Learnt,
+  layer-value-reads.Asked,
+  layer-value-reads.Learnt,
   held-value-below t,
   held-value.Post,
 ) (held-value-at t) held-value.Post
 held-value-sub-held-value t c = search needs
 
 held-value-held-value-requires : (t : ℕ) → held-value-lts.Need-held-value-requires (
-  layer-entry-reads.Asked,
-  layer-entry-reads.Learnt,
-  value-of-reads.Asked,
-  value-of-reads.Learnt,
+  layer-value-reads.Asked,
+  layer-value-reads.Learnt,
   held-value-below t,
   held-value.Post,
 ) (held-value-at t) held-value.Post
 held-value-held-value-requires t c κs = search needs
 
 held-value-returns-3 : (t : ℕ) → held-value-lts.Need-returns-3 (
-  layer-entry-reads.Asked,
-  layer-entry-reads.Learnt,
-  value-of-reads.Asked,
-  value-of-reads.Learnt,
+  layer-value-reads.Asked,
+  layer-value-reads.Learnt,
   held-value-below t,
   held-value.Post,
 ) (held-value-at t) held-value.Post
 held-value-returns-3 t c =
-    let st = c .before .before .before .before .before .before .before in
-    held-below (generation-of (now (st .args .s)) .base) _ _ _ _ _ (c .before .before .before .before .before .if1 .left) (st .pre .1 .1) (c .before .before .before .value-of .ensures) (c .before .before .before .before .layer-entry .ensures) (c .before .enum-told .given .1) (c .held-value .ensures)
+    let st = c .before .before .before .before .before .before in
+    held-below (generation-of (now (st .args .s)) .base) _ _ _ _ (c .before .before .before .before .if1 .left) (st .pre .1 .1) (c .before .before .before .layer-value .ensures) (c .before .enum-told .given .1) (c .held-value .ensures)
 
 pub +held-value-spec : {M : Type 1} → statement M
 +held-value-spec = close μ-held-value λ t. held-value-lts.spec (
-  layer-entry-reads.Asked,
-  layer-entry-reads.Learnt,
-  value-of-reads.Asked,
-  value-of-reads.Learnt,
+  layer-value-reads.Asked,
+  layer-value-reads.Learnt,
   held-value-below t,
   held-value.Post,
 )
     (held-value-at t)
     held-value.Post
     (held-value-returns t)
-    (held-value-sub-layer-entry t)
-    (held-value-layer-entry-requires t)
-    (held-value-value-of-requires t)
+    (held-value-sub-layer-value t)
+    (held-value-layer-value-requires t)
     (held-value-enum-told t)
     (held-value-enum-told-2 t)
     (held-value-returns-2 t)

@@ -6,11 +6,8 @@ use borrow.Author.Needs.{needs}
 use Rattle.layers.proofs.chain_use.Statement.{statement}
 use Rattle.layers.proofs.chain_use.Tie as tie
 
-top-entry-requires : tie.Need-top-entry-requires
-top-entry-requires c κs = search needs
-
-use-of-requires : tie.Need-use-of-requires
-use-of-requires c κs = search needs
+top-use-requires : tie.Need-top-use-requires
+top-use-requires c κs = search needs
 
 layers-requires : tie.Need-layers-requires
 layers-requires c κs = search needs
@@ -22,15 +19,9 @@ later-requires : tie.Need-later-requires
 later-requires c κs = search needs
 
 returns : tie.Need-returns
-returns c = chain-fresh (generation-of (now (c .before .before .before .before .before .before .args .s))) _ _ _ _ _ _ (c .before .before .layers .ensures) (c .later .ensures) (c .before .before .before .use-of .ensures) (c .before .before .before .before .top-entry .ensures) (c .before .freshest-use .ensures)
+returns c = chain-fresh (generation-of (now (c .before .before .before .before .before .args .s))) _ _ _ _ _ (c .before .before .layers .ensures) (c .later .ensures) (c .before .before .before .top-use .ensures) (c .before .freshest-use .ensures)
 
 pub chain-use-spec : {M : Type 1} → statement M
 chain-use-spec =
     tie.close
-    (tie.spec
-    top-entry-requires
-    use-of-requires
-    layers-requires
-    freshest-use-requires
-    later-requires
-    returns)
+    (tie.spec top-use-requires layers-requires freshest-use-requires later-requires returns)

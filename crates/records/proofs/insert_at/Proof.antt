@@ -1,13 +1,15 @@
 -- `records::insert_at` meets its contract. Assumes nothing.
 use borrow.Author.Needs.{needs}
 use mathlib.Core.Path.{_≡_, refl, ap, _∙_}
-use mathlib.Core.List.{[], _∷_, _++_}
+use mathlib.Core.List.{_++_}
 use Prim.Native.Nat.{ℕ, _+_, _*_, _-_}
 use native.Mathlib.Omega.{arith}
 use lib.ListN.{take, drop}
 use denote.Ref.{now}
 use Rattle.layout.specs.Layout.{record-size}
-use Rattle.model.specs.Slots.{slot-words, u256-words}
+use Rattle.model.specs.Slots.{slot-words}
+use Rattle.model.specs.Contents.{content-words}
+use Rattle.model.proofs.ContentLaws.{content-wide}
 use Rattle.words.specs.Parts.{part}
 use Rattle.image.specs.Image.{bytes-of}
 use Rattle.records.proofs.Written.{record-put}
@@ -54,9 +56,9 @@ returns c =
     let at = a .i * record-size in
     let len = (a .n - a .i) * record-size in
     let xs = slot-words (a .slot) in
-    let ys = a .used ∷ a .flag ∷ (u256-words (a .value) ++ (0 ∷ [])) in
+    let ys = content-words (a .c) in
     let e : at + record-size + len ≡ (a .n + 1) * record-size = omega arith in
-    record-put at len xs ys s refl refl (omega arith) (mv .move-up .ensures) (ws .write-slot .ensures) (wc .write-content .ensures)
+    record-put at len xs ys s refl (content-wide (a .c)) (omega arith) (mv .move-up .ensures) (ws .write-slot .ensures) (wc .write-content .ensures)
     ∙ ap (λ (k : ℕ). take at s ++ bytes-of (xs ++ ys) ++ part at len s ++ drop k s) e
 
 pub insert-at-spec : {M : Type 1} → statement M

@@ -6,6 +6,7 @@ use native.Mathlib.Omega.{arith}
 use denote.Ref.{now}
 use Rattle.layout.specs.Layout.{last-use-index, record-size, record-width}
 use Rattle.records.proofs.Slots.{word-at}
+use Rattle.records.proofs.RecordsAt.{use-at}
 use Rattle.records.proofs.last_use.Statement.{statement}
 use Rattle.records.proofs.last_use.Tie as tie
 
@@ -21,7 +22,7 @@ read-u64-requires c κs = search needs
 returns : tie.Need-returns
 returns c =
     let a = c .before .before .args in
-    c .read-u64 .ensures ∙ sym (word-at record-width last-use-index (a .i * record-size) (now (a .s)) (omega arith))
+    c .read-u64 .ensures ∙ sym (word-at record-width last-use-index (a .i * record-size) (now (a .s)) (omega arith)) ∙ use-at (a .i) (now (a .s))
 
 pub last-use-spec : {M : Type 1} → statement M
 last-use-spec = tie.close (tie.spec mul-read-u64 add-read-u64 read-u64-requires returns)

@@ -5,9 +5,7 @@ use Prim.Native.Nat.{ℕ, _/_, _+_, _*_, _≤_, _<_, _-_}
 use native.Mathlib.Nat.{mul-le-mul-right}
 use native.Mathlib.Omega.{arith}
 use borrow.Author.Needs.{needs}
-use lib.ListN.{length}
 use denote.Ref.{now}
-use Rattle.layout.specs.Layout.{slot-size}
 use Rattle.model.specs.declared.delta_snapshot.Slot.{Slot}
 use Rattle.model.specs.Slots.{slot-ltb}
 use Rattle.model.specs.Layers.{Layer}

@@ -8,12 +8,12 @@ use native.Mathlib.Omega.{arith}
 use lib.Dec.{leb, eqb}
 use lib.ListN.{length, getD, drop}
 use denote.Ref.{now}
-use Rattle.model.specs.Layers.{Content}
+use Rattle.model.specs.declared.delta_snapshot.Content.{Content}
+use Rattle.model.specs.Contents.{use-of, has-value}
 use Rattle.image.specs.Area.{records-of}
 use Rattle.order.specs.Index.{numbers, Names, up-from, no-record}
 use Rattle.order.proofs.IndexLaws.{all-at, names-up}
 use Rattle.order.proofs.MergeLaws.{all-ordered}
-use Rattle.order.specs.Walk.{use-of, has-value}
 use Rattle.rules.specs.Rules.{broken}
 use Rattle.order.proofs.WalkLaws.{walk, turn-last, turn-more, bit-small, walk-end}
 use Rattle.rules.proofs.RuleLaws.{Met, unmet, meets, rules-say}

@@ -113,7 +113,7 @@ returns c =
       bytes-are = compacted-by (now (a .s)) (nu .before .retention .result) (nu .installed-number .result) (ts .top-start .result) (fo .fold .result .left) (fo .fold .result .dropped) b
           (st .pre .0) (nu .before .retention .ensures) (nu .installed-number .ensures) (ts .top-start .ensures) (fo .fold .ensures .1) (fo .fold .ensures .2)
           (now (a .work)) (a .child) (tc .top-count .result) (tc .top-count .ensures) (wh .write-header .ensures) (fo .fold .ensures .0) refl (pt .place-top .ensures) (al .add-layers .ensures);
-      counts-are = report-is (now (a .s)) (nu .before .retention .result) (nu .installed-number .result) (ts .top-start .result) (fo .fold .result .left) (fo .fold .result .dropped) b
+      report-is = report-is (now (a .s)) (nu .before .retention .result) (nu .installed-number .result) (ts .top-start .result) (fo .fold .result .left) (fo .fold .result .dropped) b
           (st .pre .0) (nu .before .retention .ensures) (nu .installed-number .ensures) (ts .top-start .ensures) (fo .fold .ensures .1) (fo .fold .ensures .2) (nu .before .before .layers .result) (nu .before .before .layers .ensures);
     }
 

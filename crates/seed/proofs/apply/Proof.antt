@@ -12,8 +12,8 @@ kind-requires c κs = search needs
 enum-known-what : tie.Need-enum-known-what
 enum-known-what c = search needs
 
-settle-if-room-requires : tie.Need-settle-if-room-requires
-settle-if-room-requires c κs = search needs
+set-if-room-requires : tie.Need-set-if-room-requires
+set-if-room-requires c κs = search needs
 
 answer-requires : tie.Need-answer-requires
 answer-requires c κs = search needs
@@ -24,8 +24,8 @@ enum-told c = search needs
 installed-number-requires : tie.Need-installed-number-requires
 installed-number-requires c κs = search needs
 
-settle-if-room-requires-2 : tie.Need-settle-if-room-requires-2
-settle-if-room-requires-2 c κs = search needs
+set-if-room-requires-2 : tie.Need-set-if-room-requires-2
+set-if-room-requires-2 c κs = search needs
 
 answer-requires-2 : tie.Need-answer-requires-2
 answer-requires-2 c κs = search needs
@@ -42,7 +42,7 @@ returns c =
     let k = t .before .before .before in
     let d = k .before .before in
     let a = d .before .before .before .before .before .args in
-    wrote-over (now (a .s)) (now (a .addresses)) (a .slot) (a .value) _ (d .kind .ensures) _ _ _ _ (k .what .given .1) (c .answer .ensures) (t .settle-if-room .ensures)
+    wrote-over (now (a .s)) (now (a .addresses)) (a .slot) (a .value) _ (d .kind .ensures) _ _ _ _ (k .what .given .1) (c .answer .ensures) (t .set-if-room .ensures)
 
 same-length-2 : tie.Need-same-length-2
 same-length-2 c = search needs
@@ -54,7 +54,7 @@ returns-2 c =
     let m = n .before .before in
     let d = m .before .before in
     let a = d .before .before .before .before .before .args in
-    wrote-new (now (a .s)) (now (a .addresses)) (a .slot) (a .value) _ (d .kind .ensures) _ _ _ _ (m .enum-told .given .1) (n .installed-number .ensures) (c .answer2 .ensures) (t .settle-if-room2 .ensures)
+    wrote-new (now (a .s)) (now (a .addresses)) (a .slot) (a .value) _ (d .kind .ensures) _ _ _ _ (m .enum-told .given .1) (n .installed-number .ensures) (c .answer2 .ensures) (t .set-if-room2 .ensures)
 
 same-length-3 : tie.Need-same-length-3
 same-length-3 c = search needs
@@ -72,11 +72,11 @@ apply-spec =
     (tie.spec
     kind-requires
     enum-known-what
-    settle-if-room-requires
+    set-if-room-requires
     answer-requires
     enum-told
     installed-number-requires
-    settle-if-room-requires-2
+    set-if-room-requires-2
     answer-requires-2
     enum-told-2
     same-length

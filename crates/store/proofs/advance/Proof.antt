@@ -3,9 +3,9 @@ use Prim.Native.Nat.{_/_}
 use lib.ListN.{length}
 use denote.Ref.{now}
 use borrow.Author.Needs.{needs}
-use Rattle.model.specs.Entries.{addresses-of, writes-of}
 use Rattle.model.specs.Store.{advance}
 use Rattle.image.proofs.Lent.{decoded-some}
+use Rattle.replies.specs.Replies.{lent-prepared}
 use Rattle.store.proofs.Checked.{a-store, refused-20, advanced-none}
 use Rattle.store.proofs.advance.Statement.{statement}
 use Rattle.store.proofs.advance.Tie as tie
@@ -20,7 +20,7 @@ returns : tie.Need-returns
 returns c =
     let k = c .before in
     let a = k .before .before .before .before .before .before .before .args in
-    advanced-none (refused-20 (now (a .s)) _ (k .is-store .ensures) (advance (a .child) (a .parent-hash) (a .skip) (addresses-of (now (a .addresses))) (writes-of (now (a .writes)))) (length (now (a .work))) (length (now (a .out)) / 52) (c .if1 .taken))
+    advanced-none (refused-20 (now (a .s)) _ (k .is-store .ensures) (advance (a .child) (a .parent-hash) (lent-prepared (a .skip) (now (a .addresses)) (now (a .writes)))) (length (now (a .work))) (length (now (a .out)) / 52) (c .if1 .taken))
 
 advance-requires : tie.Need-advance-requires
 advance-requires c κs =

@@ -4,8 +4,7 @@ use denote.Ref.{now}
 use Rattle.model.specs.Entries.{members-of}
 use Rattle.model.specs.Store.{on-store, at-anchor, answer}
 use Rattle.image.specs.Image.{bytes-step}
-use Rattle.unchecked_calls.specs.Answers.{alone}
-use Rattle.unchecked_reads.specs.Answers.{answer-step}
+use Rattle.replies.specs.Replies.{alone, answer-step}
 use Rattle.unchecked_reads.proofs.Said.{stepped}
 use Rattle.store.proofs.Checked.{a-store, refused-20, unknown-flag, known-flags}
 use borrow.Author.Needs.{needs}

@@ -1,6 +1,6 @@
 -- `store::look` meets its contract: 20, or what `unchecked_calls::look` does. Assumes nothing.
 use denote.Ref.{now}
-use Rattle.model.specs.Store.{at-anchor, look}
+use Rattle.model.specs.Store.{at-anchor, look, on-slot}
 use Rattle.unchecked_reads.proofs.Said.{stepped}
 use Rattle.store.proofs.Checked.{a-store, refused-20}
 use borrow.Author.Needs.{needs}
@@ -13,7 +13,7 @@ is-store-requires c κs = search needs
 returns : tie.Need-returns
 returns c =
     let a = c .before .before .before .args in
-    stepped (refused-20 (now (a .s)) _ (c .before .is-store .ensures) (at-anchor (a .anchor) (look (a .slot))) 0 0 (c .if1 .taken))
+    stepped (refused-20 (now (a .s)) _ (c .before .is-store .ensures) (at-anchor (a .anchor) (on-slot (look (a .slot)))) 0 0 (c .if1 .taken))
 
 look-requires : tie.Need-look-requires
 look-requires c κs = a-store (now (c .before .before .before .args .s)) (c .before .is-store .result) (c .before .is-store .ensures) (c .if1 .left)

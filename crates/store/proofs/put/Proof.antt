@@ -1,6 +1,6 @@
 -- `store::put` meets its contract: 20, or what `unchecked_calls::put` does. Assumes nothing.
 use denote.Ref.{now}
-use Rattle.model.specs.Store.{at-anchor, put}
+use Rattle.model.specs.Store.{at-anchor, put, on-slot}
 use Rattle.unchecked_reads.proofs.Said.{stepped}
 use Rattle.store.proofs.Checked.{a-store, refused-20}
 use borrow.Author.Needs.{needs}
@@ -16,7 +16,7 @@ same-length c = search needs
 returns : tie.Need-returns
 returns c =
     let a = c .before .before .before .before .args in
-    stepped (refused-20 (now (a .s)) _ (c .before .is-store .ensures) (at-anchor (a .anchor) (put (a .slot) (a .value))) 0 0 (c .if1 .taken))
+    stepped (refused-20 (now (a .s)) _ (c .before .is-store .ensures) (at-anchor (a .anchor) (on-slot (put (a .slot) (a .value)))) 0 0 (c .if1 .taken))
 
 put-requires : tie.Need-put-requires
 put-requires c κs =

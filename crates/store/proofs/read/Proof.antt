@@ -1,6 +1,6 @@
 -- `store::read` meets its contract: 20, or what `unchecked_reads::read` does. Assumes nothing.
 use denote.Ref.{now}
-use Rattle.model.specs.Store.{at-anchor, read}
+use Rattle.model.specs.Store.{at-anchor, read, on-slot}
 use Rattle.unchecked_reads.proofs.Said.{stepped}
 use Rattle.store.proofs.Checked.{a-store, refused-20}
 use borrow.Author.Needs.{needs}
@@ -16,7 +16,7 @@ same-length c = search needs
 returns : tie.Need-returns
 returns c =
     let a = c .before .before .before .before .args in
-    stepped (refused-20 (now (a .s)) _ (c .before .is-store .ensures) (at-anchor (a .anchor) (read (a .slot))) 0 0 (c .if1 .taken))
+    stepped (refused-20 (now (a .s)) _ (c .before .is-store .ensures) (at-anchor (a .anchor) (on-slot (read (a .slot)))) 0 0 (c .if1 .taken))
 
 read-requires : tie.Need-read-requires
 read-requires c κs =

@@ -2,7 +2,8 @@
 use Prim.Native.Nat.{ℕ}
 use mathlib.Core.Path.{ap, _∙_}
 use denote.Ref.{now}
-use Rattle.model.specs.Layers.{insert, valued}
+use Rattle.model.specs.Contents.{valued}
+use Rattle.model.specs.Layers.{insert}
 use Rattle.image.specs.Image.{overlay}
 use Rattle.image.specs.Lent.{store-of, generation-of}
 use Rattle.top.specs.Top.{topped}
@@ -13,8 +14,8 @@ use Rattle.top.proofs.settle_top.Tie as tie
 installed-number-requires : tie.Need-installed-number-requires
 installed-number-requires c κs = search needs
 
-settle-used-requires : tie.Need-settle-used-requires
-settle-used-requires c κs = search needs
+set-top-requires : tie.Need-set-top-requires
+set-top-requires c κs = search needs
 
 same-length : tie.Need-same-length
 same-length c = search needs
@@ -25,8 +26,8 @@ returns c =
     let n = t .before .before in
     let a = n .before .before .before .args in
     let b = now (a .s) in
-    t .settle-used .ensures ∙ ap (λ (m : ℕ). overlay (topped (store-of b .config) (generation-of b) (insert (a .slot) (valued m (a .value)) (generation-of b .top))) b) (n .installed-number .ensures)
+    t .set-top .ensures ∙ ap (λ (m : ℕ). overlay (topped (store-of b .config) (generation-of b) (insert (a .slot) (valued m (a .value)) (generation-of b .top))) b) (n .installed-number .ensures)
 
 pub settle-top-spec : {M : Type 1} → statement M
 settle-top-spec =
-    tie.close (tie.spec installed-number-requires settle-used-requires same-length returns)
+    tie.close (tie.spec installed-number-requires set-top-requires same-length returns)

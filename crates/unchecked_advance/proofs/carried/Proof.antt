@@ -32,13 +32,13 @@ same-length-3 : tie.Need-same-length-3
 same-length-3 c = search needs
 
 returns : tie.Need-returns
-returns c =
+returns c k =
     let f = c .before .before .before .before .before .before in
     let n = f .before .before .before .before in
     let b = n .before .before .before .before in
     let st = b .before .before .before .before .before .before .before .before in
     let a = st .args in
-    carried-is (now (a .s)) (now (a .work)) (a .child) (st .pre .0) (st .pre .1) (st .pre .2) _ _ (b .begin-carried .ensures) _ _ _ (now (a .out)) (now (a .addresses)) (now (a .writes)) _ (n .counts-of .ensures) (f .finish .ensures)
+    carried-is (now (a .s)) (now (a .work)) (a .child) (st .pre .0) (st .pre .1) (st .pre .2) _ _ (b .begin-carried .ensures) _ _ _ (now (a .out)) (now (a .addresses)) (now (a .writes)) _ k (n .counts-of .ensures) (f .finish .ensures)
 
 pub carried-spec : {M : Type 1} → statement M
 carried-spec =

@@ -32,12 +32,12 @@ same-length-3 : tie.Need-same-length-3
 same-length-3 c = search needs
 
 returns : tie.Need-returns
-returns c =
+returns c k q =
     let f = c .before .before .before .before .before .before in
     let b = f .before .before .before .before .before .before .before .before in
     let st = b .before .before .before .before .before .before .before .before in
     let a = st .args in
-    cold-is (now (a .s)) (now (a .work)) (a .child) (st .pre .0) (st .pre .1) _ (b .begin-cold .ensures) _ _ _ (now (a .out)) (now (a .addresses)) (now (a .writes)) (a .lineage) (a .skip) (f .finish .ensures)
+    cold-is (now (a .s)) (now (a .work)) (a .child) (st .pre .0) (st .pre .1) _ (b .begin-cold .ensures) _ _ _ (now (a .out)) (now (a .addresses)) (now (a .writes)) (a .lineage) (a .skip) k q (f .finish .ensures)
 
 pub cold-spec : {M : Type 1} → statement M
 cold-spec =

@@ -89,7 +89,7 @@ returns-2 c =
     let t = f .before .before .before .before in
     let st = t .before .before .before .before .before .before .before .before .before .before .before .before .before in
     let a = st .args in
-    as-performed (now (a .s)) (a .child) (a .parent-hash) (a .skip) (now (a .addresses)) (now (a .writes)) _ _ _ _ (now (a .out)) (by-carry t .performs) (f .carried .ensures)
+    as-performed (now (a .s)) (a .child) (a .parent-hash) (a .skip) (now (a .addresses)) (now (a .writes)) _ _ _ _ (now (a .out)) (by-carry t .performs) (f .carried .ensures (a .skip))
 
 cold-requires : tie.Need-cold-requires
 cold-requires c κs = search needs
@@ -114,7 +114,7 @@ returns-3 c =
     let st = el .before .before .before .before .before .before .before .before in
     let a = st .args in
     as-performed (now (a .s)) (a .child) (a .parent-hash) (a .skip) (now (a .addresses)) (now (a .writes)) _ _ _ _ (now (a .out))
-    (proceed-cold (now (a .s)) (a .child) (a .parent-hash) (a .skip) (now (a .addresses)) (now (a .writes)) (st .pre .0) (other el) _ _ (cl .classify-link .ensures) (sk .skip-of .ensures) (sym (ca .carries .ensures) ∙ t .if2 .left)) (f .cold .ensures)
+    (proceed-cold (now (a .s)) (a .child) (a .parent-hash) (a .skip) (now (a .addresses)) (now (a .writes)) (st .pre .0) (other el) _ _ (cl .classify-link .ensures) (sk .skip-of .ensures) (sym (ca .carries .ensures) ∙ t .if2 .left)) (f .cold .ensures (a .skip) (sk .skip-of .ensures))
 
 pub proceed-spec : {M : Type 1} → statement M
 proceed-spec =

@@ -5,12 +5,13 @@ use mathlib.Core.Option.{some}
 use native.Mathlib.Omega.{arith}
 use borrow.Author.Tests.{not-true, not-false}
 use denote.Ref.{now}
-use Rattle.model.specs.Layers.{find, touch, record-count}
+use Rattle.model.specs.Contents.{touch}
+use Rattle.model.specs.Layers.{find, record-count}
 use Rattle.model.specs.Store.{resolved, chain}
 use Rattle.image.specs.Lent.{store-of, generation-of}
 use Rattle.image.proofs.Lent.{decoded-some}
-use Rattle.layers.specs.Answers.{held-option}
-use Rattle.layers.specs.declared.Held.the-variants.{Value as HeldValue}
+use Rattle.model.specs.Contents.{held-option}
+use Rattle.model.specs.declared.delta_snapshot.Held.the-variants.{Value as HeldValue}
 use Rattle.records.specs.Records.{count-after}
 use Rattle.top.specs.Top.{Placed}
 use Rattle.header.proofs.Segments.{known-bytes}

@@ -3,14 +3,14 @@ use mathlib.Core.Path.{_≡_, sym, ap, _∙_}
 use mathlib.Core.Option.{Option, some, none}
 use denote.Ref.{now}
 use Rattle.model.specs.Slots.{Value}
-use Rattle.model.specs.Store.{on-store, at-anchor, look, resolved, value-report}
+use Rattle.model.specs.Store.{on-store, at-anchor, look, on-slot, resolved, value-report}
 use Rattle.model.specs.Refusals.{ok}
 use Rattle.image.specs.Image.{bytes-step}
 use Rattle.image.specs.Lent.{store-of, generation-of}
 use Rattle.image.proofs.Lent.{decoded-some}
-use Rattle.layers.specs.Answers.{held-option}
-use Rattle.layers.specs.declared.Held.the-variants.{Value as HeldValue}
-use Rattle.unchecked_calls.specs.Answers.{alone, Stepped}
+use Rattle.model.specs.Contents.{held-option}
+use Rattle.model.specs.declared.delta_snapshot.Held.the-variants.{Value as HeldValue}
+use Rattle.replies.specs.Replies.{alone, Stepped}
 use Rattle.header.proofs.Segments.{known-bytes}
 use Rattle.unchecked_calls.proofs.Turned.{plain-look}
 use Rattle.unchecked_calls.proofs.Said.{said-look}
@@ -28,7 +28,7 @@ here c =
 
 -- What the look answers, as the search found it.
 said : (c : tie.Else1) (o : Option Value) → let a = c .before .before .before .args in
-    o ≡ resolved (store-of (now (a .s)) .config .retention) (generation-of (now (a .s))) (a .slot) → Stepped (ok (value-report o)) (now (a .s)) (bytes-step (now (a .s)) (alone (on-store (at-anchor (a .anchor) (look (a .slot))))))
+    o ≡ resolved (store-of (now (a .s)) .config .retention) (generation-of (now (a .s))) (a .slot) → Stepped (ok (value-report o)) (now (a .s)) (bytes-step (now (a .s)) (alone (on-store (at-anchor (a .anchor) (on-slot (look (a .slot)))))))
 said c o e =
     let k = c .before .before in
     let a = k .before .args in

@@ -4,7 +4,8 @@ use mathlib.Core.Path.{sym, _∙_}
 use native.Mathlib.Omega.{arith}
 use borrow.Author.Tests.{not-true, not-false}
 use denote.Ref.{now}
-use Rattle.model.specs.Layers.{valued, record-count}
+use Rattle.model.specs.Contents.{valued}
+use Rattle.model.specs.Layers.{record-count}
 use Rattle.model.specs.Store.{chain}
 use Rattle.image.specs.Lent.{store-of, generation-of}
 use Rattle.image.proofs.Lent.{decoded-some}

@@ -1,13 +1,10 @@
 -- `unchecked_reads::answer` meets its contract. Assumes nothing.
-use Prim.Native.Nat.{_≤_, _<_}
 use mathlib.Core.Path.{_≡_, sym, _∙_}
 use mathlib.Core.Bool.{true, false}
-use mathlib.Core.List.{_∷_}
 use native.Mathlib.Omega.{arith}
 use borrow.Author.Tests.{not-true, not-false, leb-true, leb-false}
 use denote.Ref.{now}
-use Rattle.model.specs.Layers.{record-count}
-use Rattle.model.specs.Reads.{all-taken, has-duplicate, settle-members}
+use Rattle.model.specs.Reads.{all-taken, has-duplicate}
 use Rattle.model.specs.Entries.{members-of}
 use Rattle.model.specs.Store.{answer}
 use Rattle.image.specs.Lent.{store-of, generation-of}

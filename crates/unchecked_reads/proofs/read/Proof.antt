@@ -1,19 +1,15 @@
 -- `unchecked_reads::read` meets its contract. Assumes nothing.
-use Prim.Native.Nat.{_≤_, _<_}
-use mathlib.Core.Path.{_≡_, sym, ap, subst, _∙_}
-use mathlib.Core.Option.{some, none}
+use Prim.Native.Nat.{_≤_}
+use mathlib.Core.Path.{_≡_, sym, ap, _∙_}
+use mathlib.Core.Option.{some}
 use native.Mathlib.Omega.{arith}
 use denote.Ref.{now}
-use Rattle.model.specs.declared.storage_memo.ReadAnchor.{ReadAnchor}
-use Rattle.model.proofs.SlotLaws.{anchor-eqb-true}
-use Rattle.model.specs.Store.{read, on-store, at-anchor, resolved}
-use Rattle.image.specs.Image.{bytes-step}
+use Rattle.model.specs.Store.{read, on-slot, resolved}
 use Rattle.image.specs.Lent.{store-of, generation-of}
 use Rattle.image.proofs.Lent.{decoded-some, generation-in}
-use Rattle.layers.specs.Answers.{held-option}
-use Rattle.layers.specs.declared.Held.the-variants.{Value as HeldValue}
+use Rattle.model.specs.Contents.{held-option}
+use Rattle.model.specs.declared.delta_snapshot.Held.the-variants.{Value as HeldValue}
 use Rattle.layers.proofs.Header.{header-room}
-use Rattle.unchecked_calls.specs.Answers.{alone, Stepped}
 use Rattle.header.proofs.Guards.{Here, past-guard}
 use Rattle.unchecked_reads.specs.Inner.{Open}
 use Rattle.unchecked_reads.proofs.Said.{stepped, none-twice, by-guard, said-25, at-its-anchor}
@@ -51,7 +47,7 @@ returns : tie.Need-returns
 returns c =
     let st = c .before .before .before .before in
     let a = st .args in
-    stepped (by-guard (now (a .s)) (a .anchor) (read (a .slot)) 0 none-twice (decoded-some _ (st .pre)) _ (c .before .guard .ensures) (c .if1 .taken))
+    stepped (by-guard (now (a .s)) (a .anchor) (on-slot (read (a .slot))) 0 none-twice (decoded-some _ (st .pre)) _ (c .before .guard .ensures) (c .if1 .taken))
 
 read-u64-requires : tie.Need-read-u64-requires
 read-u64-requires c κs = omega (arith, header-room _ (here (c .before) .has .is-store))
@@ -90,7 +86,7 @@ returns-3 c =
     let e2 = t .before .before .before .before .before .before in
     let e1 = e2 .before .before .before in
     let a = e1 .before .before .before .before .args in
-    at-its-anchor (now (a .s)) (a .anchor) (here e1) (read (a .slot)) (t .wait .ensures)
+    at-its-anchor (now (a .s)) (a .anchor) (here e1) (on-slot (read (a .slot))) (t .wait .ensures)
 
 serve-requires : tie.Need-serve-requires
 serve-requires c κs =
@@ -106,7 +102,7 @@ returns-4 c =
     let e2 = t .before .before .before .before .before .before .before in
     let e1 = e2 .before .before .before in
     let a = e1 .before .before .before .before .args in
-    at-its-anchor (now (a .s)) (a .anchor) (here e1) (read (a .slot)) (t .serve .ensures)
+    at-its-anchor (now (a .s)) (a .anchor) (here e1) (on-slot (read (a .slot))) (t .serve .ensures)
 
 pub read-spec : {M : Type 1} → statement M
 read-spec =

@@ -1,6 +1,6 @@
 -- `unchecked_reads::remove_all` meets its contract. Assumes nothing.
-use Prim.Native.Nat.{_-_, _≤_}
-use mathlib.Core.Path.{sym, ap, subst}
+use Prim.Native.Nat.{_-_}
+use mathlib.Core.Path.{ap}
 use mathlib.Core.List.{List}
 use native.Mathlib.Omega.{arith}
 use lib.ListN.{length}

@@ -4,7 +4,8 @@ use mathlib.Core.List.{_∷_}
 use native.Mathlib.Omega.{arith}
 use borrow.Author.Tests.{not-true, not-false}
 use denote.Ref.{now}
-use Rattle.model.specs.Layers.{find, touch, record-count}
+use Rattle.model.specs.Contents.{touch}
+use Rattle.model.specs.Layers.{find, record-count}
 use Rattle.model.specs.Reads.{count-served}
 use Rattle.model.specs.Store.{touched-top, chain}
 use Rattle.image.specs.Lent.{store-of, generation-of}

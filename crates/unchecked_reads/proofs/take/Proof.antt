@@ -1,12 +1,10 @@
 -- `unchecked_reads::take` meets its contract. Assumes nothing.
-use Prim.Native.Nat.{_*_, _/_, _≤_, _<_}
-use mathlib.Core.Path.{_≡_, refl, sym, _∙_}
-use mathlib.Core.Bool.{false}
-use mathlib.Core.List.{[]}
+use Prim.Native.Nat.{_/_, _≤_, _<_}
+use mathlib.Core.Path.{sym, _∙_}
 use native.Mathlib.Omega.{arith}
 use lib.ListN.{length}
 use denote.Ref.{now}
-use Rattle.model.specs.Reads.{queued, has-duplicate}
+use Rattle.model.specs.Reads.{queued}
 use Rattle.model.specs.Store.{take}
 use Rattle.image.specs.Lent.{generation-of}
 use Rattle.image.proofs.Lent.{decoded-some, generation-in}

@@ -2,13 +2,12 @@
 use Prim.Native.Nat.{ℕ, suc}
 use mathlib.Core.Path.{_≡_, sym, ap, _∙_}
 use mathlib.Core.Bool.{Bool, false, not, _&&_}
-use mathlib.Core.List.{List}
 use native.Mathlib.Omega.{arith}
 use native.Mathlib.Numerals.{add-one}
 use lib.Dec.{leb}
 use lib.ListN.{length}
 use denote.Ref.{now}
-use Rattle.model.specs.Reads.{is-awaiting, waiters-of, join, count-waiting}
+use Rattle.model.specs.Reads.{is-awaiting, join, count-waiting}
 use Rattle.model.specs.Store.{waiting}
 use Rattle.model.specs.Refusals.{ok}
 use Rattle.image.specs.Lent.{store-of, generation-of}

@@ -1,0 +1,29 @@
+-- `layers::value_in` meets its contract. Assumes nothing.
+use mathlib.Core.Path.{ap, _∙_}
+use Rattle.model.specs.Contents.{held-option, value-of}
+use Rattle.layers.proofs.Search.{entry-absent, entry-room, entry-is}
+use borrow.Author.Needs.{needs}
+use Rattle.layers.proofs.value_in.Statement.{statement}
+use Rattle.layers.proofs.value_in.Tie as tie
+
+find-requires : tie.Need-find-requires
+find-requires c κs = search needs
+
+enum-known-f : tie.Need-enum-known-f
+enum-known-f c = search needs
+
+enum-told : tie.Need-enum-told
+enum-told c = search needs
+
+returns : tie.Need-returns
+returns c = ap value-of (entry-absent _ _ _ _ (c .before .before .find .ensures) _ (c .before .before .before .before .pre .1) (c .enum-told .given .1))
+
+held-requires : tie.Need-held-requires
+held-requires c κs = entry-room _ _ _ _ (c .before .before .before .find .ensures) _ (c .before .before .before .before .before .pre .0) (c .before .f .given .1)
+
+returns-2 : tie.Need-returns-2
+returns-2 c = ap held-option (c .held .ensures) ∙ ap value-of (entry-is _ _ _ _ (c .before .before .before .before .find .ensures) _ (c .before .before .f .given .1))
+
+pub value-in-spec : {M : Type 1} → statement M
+value-in-spec =
+    tie.close (tie.spec find-requires enum-known-f enum-told returns held-requires returns-2)

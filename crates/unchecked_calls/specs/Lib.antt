@@ -1,2 +1,0 @@
--- What the answers of the calls mean, and what a call's contract says.
-pub mod Answers
