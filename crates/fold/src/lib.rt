@@ -91,7 +91,7 @@ fn walk(
 }
 
 // The fold of the n records that s begins with (`compact`): writes, at the beginning of the output, the one layer of each slot whose freshest use serves at `number`, with its newest value and that use.
-pub fn fold(s: &[u8], n: usize, retention: Retention, number: u64, out: &mut [u8]) -> Folded
+pub fn compact(s: &[u8], n: usize, retention: Retention, number: u64, out: &mut [u8]) -> Folded
     requires { ⌜ (n * record-size ≤ length (now s)) × (n * record-size ≤ length (now out)) × (n ≤ 4096) ⌝ }
     ensures { λ r. ⌜ (now (out .exit) ≡ with-records (folded retention number (records-of n (now (s .entry)))) (now (out .entry))) × (r .left ≡ length (folded retention number (records-of n (now (s .entry))))) × (r .dropped ≡ dropped-in retention number (records-of n (now (s .entry)))) ⌝ }
 {

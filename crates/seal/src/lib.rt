@@ -212,7 +212,7 @@ fn seal_folded(s: &[u8], work: &mut [u8], child: ReadAnchor) -> CompactionReport
     let retention = layers::retention(s);
     let number = layers::installed_number(s);
     write_header(s, work, child);
-    let folded = fold::fold(
+    let folded = fold::compact(
         &s[layout::RECORDS_OFFSET..],
         base,
         retention,

@@ -30,30 +30,30 @@ installed-number-requires c κs = search needs
 write-header-requires : tie.Need-write-header-requires
 write-header-requires c κs = search needs
 
-sub-fold : tie.Need-sub-fold
-sub-fold c =
+sub-compact : tie.Need-sub-compact
+sub-compact c =
     let st = c .before .before .before .before .before .before .before .before .before .before .before in
     omega (arith, header-room (now (st .args .s)) (st .pre .0 .is-store))
 
-part-fold-start : tie.Need-part-fold-start
-part-fold-start c =
+part-compact-start : tie.Need-part-compact-start
+part-compact-start c =
     let st = c .before .before .before .before .before .before .before .before .before .before .before in
     omega (arith, header-room (now (st .args .s)) (st .pre .0 .is-store))
 
-part-fold-end : tie.Need-part-fold-end
-part-fold-end c = search needs
+part-compact-end : tie.Need-part-compact-end
+part-compact-end c = search needs
 
-sub-fold-2 : tie.Need-sub-fold-2
-sub-fold-2 c = search needs
+sub-compact-2 : tie.Need-sub-compact-2
+sub-compact-2 c = search needs
 
-part-fold-start-2 : tie.Need-part-fold-start-2
-part-fold-start-2 c = search needs
+part-compact-start-2 : tie.Need-part-compact-start-2
+part-compact-start-2 c = search needs
 
-part-fold-end-2 : tie.Need-part-fold-end-2
-part-fold-end-2 c = search needs
+part-compact-end-2 : tie.Need-part-compact-end-2
+part-compact-end-2 c = search needs
 
-fold-requires : tie.Need-fold-requires
-fold-requires c κs =
+compact-requires : tie.Need-compact-requires
+compact-requires c κs =
     let wh = c .before .before .before .before in
     let nu = wh .before .before in
     let ts = nu .before .before .before .before in
@@ -65,8 +65,8 @@ fold-requires c κs =
     )
 
 -- The fold leaves no more records than the base has.
-few : (c : tie.After-fold) → let ts = c .before .before .before .before .before .before .before .before .before .before .before in
-    c .fold .result .left ≤ record-count (generation-of (now (ts .before .before .before .args .s)) .base)
+few : (c : tie.After-compact) → let ts = c .before .before .before .before .before .before .before .before .before .before .before in
+    c .compact .result .left ≤ record-count (generation-of (now (ts .before .before .before .args .s)) .base)
 few c =
     let wh = c .before .before .before .before .before in
     let nu = wh .before .before in
@@ -74,8 +74,8 @@ few c =
     let sk = ts .before .before in
     let st = sk .before in
     let a = st .args in
-    left-few (now (a .s)) (nu .before .retention .result) (nu .installed-number .result) (ts .top-start .result) (c .fold .result .left) (c .fold .result .dropped) (known-bytes (now (a .s)) (sk .shared-slice-known .given))
-    (st .pre .0) (nu .before .retention .ensures) (nu .installed-number .ensures) (ts .top-start .ensures) (c .fold .ensures .1) (c .fold .ensures .2)
+    left-few (now (a .s)) (nu .before .retention .result) (nu .installed-number .result) (ts .top-start .result) (c .compact .result .left) (c .compact .result .dropped) (known-bytes (now (a .s)) (sk .shared-slice-known .given))
+    (st .pre .0) (nu .before .retention .ensures) (nu .installed-number .ensures) (ts .top-start .ensures) (c .compact .ensures .1) (c .compact .ensures .2)
 
 place-top-requires : tie.Need-place-top-requires
 place-top-requires c κs =
@@ -88,7 +88,7 @@ add-add-layers c =
     let fo = c .before .before .before .before .before .before .before in
     let tc = fo .before .before .before .before .before .before .before .before .before .before in
     let st = tc .before .before .before .before in
-    omega (arith, fold-total (now (st .args .s)) (fo .fold .result .left) (tc .top-count .result) (st .pre .0) (few fo) (tc .top-count .ensures))
+    omega (arith, fold-total (now (st .args .s)) (fo .compact .result .left) (tc .top-count .result) (st .pre .0) (few fo) (tc .top-count .ensures))
 
 add-layers-requires : tie.Need-add-layers-requires
 add-layers-requires c κs = search needs
@@ -110,11 +110,11 @@ returns c =
     let a = st .args in
     let b = known-bytes (now (a .s)) (sk .shared-slice-known .given) in
     record {
-      bytes-are = compacted-by (now (a .s)) (nu .before .retention .result) (nu .installed-number .result) (ts .top-start .result) (fo .fold .result .left) (fo .fold .result .dropped) b
-          (st .pre .0) (nu .before .retention .ensures) (nu .installed-number .ensures) (ts .top-start .ensures) (fo .fold .ensures .1) (fo .fold .ensures .2)
-          (now (a .work)) (a .child) (tc .top-count .result) (tc .top-count .ensures) (wh .write-header .ensures) (fo .fold .ensures .0) refl (pt .place-top .ensures) (al .add-layers .ensures);
-      report-is = report-is (now (a .s)) (nu .before .retention .result) (nu .installed-number .result) (ts .top-start .result) (fo .fold .result .left) (fo .fold .result .dropped) b
-          (st .pre .0) (nu .before .retention .ensures) (nu .installed-number .ensures) (ts .top-start .ensures) (fo .fold .ensures .1) (fo .fold .ensures .2) (nu .before .before .layers .result) (nu .before .before .layers .ensures);
+      bytes-are = compacted-by (now (a .s)) (nu .before .retention .result) (nu .installed-number .result) (ts .top-start .result) (fo .compact .result .left) (fo .compact .result .dropped) b
+          (st .pre .0) (nu .before .retention .ensures) (nu .installed-number .ensures) (ts .top-start .ensures) (fo .compact .ensures .1) (fo .compact .ensures .2)
+          (now (a .work)) (a .child) (tc .top-count .result) (tc .top-count .ensures) (wh .write-header .ensures) (fo .compact .ensures .0) refl (pt .place-top .ensures) (al .add-layers .ensures);
+      report-is = report-is (now (a .s)) (nu .before .retention .result) (nu .installed-number .result) (ts .top-start .result) (fo .compact .result .left) (fo .compact .result .dropped) b
+          (st .pre .0) (nu .before .retention .ensures) (nu .installed-number .ensures) (ts .top-start .ensures) (fo .compact .ensures .1) (fo .compact .ensures .2) (nu .before .before .layers .result) (nu .before .before .layers .ensures);
     }
 
 pub seal-folded-spec : {M : Type 1} → statement M
@@ -127,13 +127,13 @@ seal-folded-spec =
     retention-requires
     installed-number-requires
     write-header-requires
-    sub-fold
-    part-fold-start
-    part-fold-end
-    sub-fold-2
-    part-fold-start-2
-    part-fold-end-2
-    fold-requires
+    sub-compact
+    part-compact-start
+    part-compact-end
+    sub-compact-2
+    part-compact-start-2
+    part-compact-end-2
+    compact-requires
     place-top-requires
     add-add-layers
     add-layers-requires

@@ -1,4 +1,4 @@
--- `fold::fold` meets its contract.
+-- `fold::compact` meets its contract.
 use borrow.Author.Needs.{needs}
 use mathlib.Core.Path.{_≡_, sym, ap, subst, _∙_}
 use mathlib.Core.List.{List}
@@ -9,8 +9,8 @@ use denote.Ref.{now}
 use Rattle.layout.specs.Layout.{record-size}
 use Rattle.order.specs.Index.{numbers, Ordered, up-from}
 use Rattle.order.proofs.PartLaws.{front-part, front-fits}
-use Rattle.fold.proofs.fold.Statement.{statement}
-use Rattle.fold.proofs.fold.Tie as tie
+use Rattle.fold.proofs.compact.Statement.{statement}
+use Rattle.fold.proofs.compact.Tie as tie
 
 sub-order : tie.Need-sub-order
 sub-order c = search needs
@@ -64,8 +64,8 @@ same-length c = search needs
 returns : tie.Need-returns
 returns c = search needs
 
-pub fold-spec : {M : Type 1} → statement M
-fold-spec =
+pub compact-spec : {M : Type 1} → statement M
+compact-spec =
     tie.close
     (tie.spec
     sub-order
