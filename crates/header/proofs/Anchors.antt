@@ -1,19 +1,27 @@
 -- Comparing the installed anchor with another word by word.
-use Prim.Native.Nat.{ℕ}
-use mathlib.Core.Path.{_≡_, refl}
-use mathlib.Core.Bool.{false}
+use Prim.Native.Nat.{ℕ, _+_}
+use mathlib.Core.Path.{_≡_, refl, sym, ap, _∙_}
+use mathlib.Core.Bool.{Bool, true, false, cond}
 use mathlib.Core.List.{List, [], _∷_}
 use native.Mathlib.Omega.{arith}
 use lib.Dec.{eqb}
-use lib.ListN.{getD}
+use lib.ListN.{length, getD}
 use borrow.Author.Tests.{eq-eqb, ne-eqb}
 use Rattle.model.specs.declared.storage_memo.U256.{U256}
 use Rattle.model.specs.declared.storage_memo.BlockHash.{BlockHash}
 use Rattle.model.specs.declared.storage_memo.BlockHash.the-variants.{Unknown, Known}
 use Rattle.model.specs.declared.storage_memo.ReadAnchor.{ReadAnchor}
-use Rattle.model.specs.Slots.{u256-words, words-eqb, u256-eqb, hash-eqb, anchor-eqb}
+use Rattle.model.specs.Slots.{at, identified, u256-words, words-eqb, u256-eqb, hash-eqb, anchor-eqb}
 use Rattle.model.proofs.SlotLaws.{and-true}
+use Rattle.model.specs.Entries.{u256-at}
+use Rattle.model.specs.Numbers.{num}
+use Rattle.words.specs.Parts.{part}
 use Rattle.image.specs.Image.{hash-words}
+use Rattle.header.specs.Header.{lent-anchor}
+
+-- The four words at a place.
+abbrev pub words-from : ℕ → List ℕ → List ℕ
+words-from at s = num (part at 8 s) ∷ num (part (at + 8) 8 s) ∷ num (part (at + 16) 8 s) ∷ num (part (at + 24) 8 s) ∷ []
 
 -- The first words differ, or they are equal and the rest decides, or they are the last.
 pub words-differ : {x w : ℕ} (y : ℕ) (ws ys : List ℕ) → x ≡ w → (x ≡ y → ⊥) → false ≡ words-eqb (w ∷ ws) (y ∷ ys)
@@ -52,3 +60,28 @@ pub known-against : (k : BlockHash) (h : U256) (w w0 w1 w2 w3 : ℕ) → w ≡ g
 unfolding u256-eqb
 known-against Unknown h w w0 w1 w2 w3 e n e0 e1 e2 e3 = absurd (n e)
 known-against (Known k) h w w0 w1 w2 w3 e n e0 e1 e2 e3 = rw (e0, e1, e2, e3)
+
+-- The anchor of a number and a lent hash: empty, or not.
+module _ (h : List ℕ) (n : ℕ) where
+  pub empty-anchor : length h ≡ 0 → at n ≡ lent-anchor n h
+  empty-anchor e = sym (ap (λ (x : Bool). cond x (at n) (identified n (u256-at 0 h))) (eq-eqb (length h) 0 e))
+
+  pub full-anchor : (length h ≡ 0 → ⊥) → identified n (u256-at 0 h) ≡ lent-anchor n h
+  full-anchor e = sym (ap (λ (x : Bool). cond x (at n) (identified n (u256-at 0 h))) (ne-eqb (length h) 0 e))
+
+  -- Its number decides, or its hash: none, or the one that the bytes begin with.
+  pub lent-differs : (a : ReadAnchor) {w : ℕ} → w ≡ a .number → (w ≡ n → ⊥) → false ≡ anchor-eqb a (lent-anchor n h)
+  lent-differs a {w} e d = anchor-differs a (lent-anchor n h) e (λ q. d (q ∙ number-is))
+    where
+      number-is : lent-anchor n h .number ≡ n
+      number-is = go (eqb (length h) 0)
+        where
+          go : (t : Bool) → cond t (at n) (identified n (u256-at 0 h)) .number ≡ n
+          go true = refl
+          go false = refl
+
+  pub lent-empty : (a : ReadAnchor) {w : ℕ} → w ≡ a .number → w ≡ n → length h ≡ 0 → hash-eqb (a .hash) Unknown ≡ anchor-eqb a (lent-anchor n h)
+  lent-empty a e d z = anchor-hash a (at n) e d ∙ ap (anchor-eqb a) (empty-anchor z)
+
+  pub lent-full : (a : ReadAnchor) {w : ℕ} → w ≡ a .number → w ≡ n → (length h ≡ 0 → ⊥) → hash-eqb (a .hash) (Known (u256-at 0 h)) ≡ anchor-eqb a (lent-anchor n h)
+  lent-full a e d z = anchor-hash a (identified n (u256-at 0 h)) e d ∙ ap (anchor-eqb a) (full-anchor z)

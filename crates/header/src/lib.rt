@@ -9,12 +9,13 @@ ghost use Prim.Native.Nat.{_+_, _-_, _*_, _≤_, max};
 ghost use lib.ListN.{length};
 ghost use Rattle.layout.specs.Layout.{depth-offset, installed-offset, magic};
 ghost use Rattle.model.specs.Slots.{u256-words, words-eqb, anchor-eqb};
+ghost use Rattle.model.specs.Entries.{u256-at};
 ghost use Rattle.model.specs.Numbers.{num};
 ghost use Rattle.model.specs.Refusals.{store-size};
 ghost use Rattle.words.specs.Parts.{part, placed};
 ghost use Rattle.image.specs.Image.{bytes-of, overlay};
 ghost use Rattle.image.specs.Lent.{store-of, generation-of, IsStore, Installed};
-ghost use Rattle.header.specs.Header.{anchored-refusal, config-of, empty, begun};
+ghost use Rattle.header.specs.Header.{anchored-refusal, lent-anchor, config-of, empty, begun};
 
 // The bytes between what the open sets and the records.
 const AFTER_CONFIG: usize = layout::RECORDS_OFFSET - layout::INSTALLED_OFFSET;
@@ -138,6 +139,55 @@ pub fn guard(s: &[u8], anchor: ReadAnchor) -> u64
         return 21;
     }
     if !same_anchor(s, anchor) {
+        return 22;
+    }
+    0
+}
+
+// Whether the four words at `at` are those that a lent hash begins with.
+fn same_words(s: &[u8], at: usize, hash: &[u8]) -> bool
+    requires { ⌜ (at + 32 ≤ length (now s)) × (32 ≤ length (now hash)) ⌝ }
+    ensures { λ r. ⌜ r ≡ words-eqb (num (part at 8 (now (s .entry))) ∷ num (part (at + 8) 8 (now (s .entry))) ∷ num (part (at + 16) 8 (now (s .entry))) ∷ num (part (at + 24) 8 (now (s .entry))) ∷ []) (u256-words (u256-at 0 (now (hash .entry)))) ⌝ }
+{
+    if words::read_u64(s, at) != words::read_u64(hash, 0) {
+        return false;
+    }
+    if words::read_u64(s, at + 8) != words::read_u64(hash, 8) {
+        return false;
+    }
+    if words::read_u64(s, at + 16) != words::read_u64(hash, 16) {
+        return false;
+    }
+    words::read_u64(s, at + 24) == words::read_u64(hash, 24)
+}
+
+// Whether the installed anchor is that of a number and a lent hash.
+fn same_lent(s: &[u8], number: u64, hash: &[u8]) -> bool
+    requires { ⌜ Installed (now s) × ((length (now hash) ≡ 0 → ⊥) → 32 ≤ length (now hash)) ⌝ }
+    ensures { λ r. ⌜ r ≡ anchor-eqb (generation-of (now (s .entry)) .anchor) (lent-anchor number (now (hash .entry))) ⌝ }
+{
+    if words::read_u64(s, layout::NUMBER_OFFSET) != number {
+        return false;
+    }
+    let known = words::read_u64(s, layout::HASH_OFFSET);
+    if hash.len() == 0 {
+        return known == 0;
+    }
+    if known == 0 {
+        return false;
+    }
+    same_words(s, layout::HASH_W0_OFFSET, hash)
+}
+
+// The refusal of a call at the anchor of a number and a lent hash, compared in place.
+pub fn guard_lent(s: &[u8], number: u64, hash: &[u8]) -> u64
+    requires { ⌜ IsStore (now s) × ((length (now hash) ≡ 0 → ⊥) → 32 ≤ length (now hash)) ⌝ }
+    ensures { λ r. ⌜ r ≡ anchored-refusal (store-of (now (s .entry)) .installed) (lent-anchor number (now (hash .entry))) ⌝ }
+{
+    if !layers::is_installed(s) {
+        return 21;
+    }
+    if !same_lent(s, number, hash) {
         return 22;
     }
     0

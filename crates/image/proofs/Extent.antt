@@ -87,18 +87,12 @@ fit-hash : (h : BlockHash) → hash-fits h ≡ true → Fit (hash-words h)
 fit-hash Unknown e = fit-zeros 5
 fit-hash (Known h) e = fit-cons (lit< tt) (fit-u256 h e)
 
-fit-totals : (q : List Pending) (t : ReadTotals) → TotalsFacts q t → Fit (totals-words t)
-fit-totals q t f =
-    let accepted : t .accepted < 2 ^ 64 = omega arith in
-    let served : t .served < 2 ^ 64 = omega arith in
-    let waiting : t .waiting < 2 ^ 64 = omega arith in
-    let valued : t .valued < 2 ^ 64 = omega arith in
-    let refused : t .refused < 2 ^ 64 = omega arith in
-    let rounds : t .rounds < 2 ^ 64 = omega arith in
-    let members : t .members < 2 ^ 64 = omega arith in
-    let errors : t .errors < 2 ^ 64 = omega arith in
-    let coalesced : t .coalesced < 2 ^ 64 = omega arith in
-    fit-cons accepted (fit-cons served (fit-cons waiting (fit-cons valued (fit-cons refused (fit-cons rounds (fit-cons members (fit-cons errors (fit-cons coalesced fit-nil))))))))
+-- Read totals, each of which fits a word.
+pub fit-totals : (t : ReadTotals) → t .accepted < 2 ^ 64 → t .served < 2 ^ 64 → t .waiting < 2 ^ 64 → t .valued < 2 ^ 64 → t .refused < 2 ^ 64 → t .rounds < 2 ^ 64 → t .members < 2 ^ 64 → t .errors < 2 ^ 64 → t .coalesced < 2 ^ 64 → Fit (totals-words t)
+fit-totals t a b c d e f g h i = fit-cons a (fit-cons b (fit-cons c (fit-cons d (fit-cons e (fit-cons f (fit-cons g (fit-cons h (fit-cons i fit-nil))))))))
+
+right-totals : (q : List Pending) (t : ReadTotals) → TotalsFacts q t → Fit (totals-words t)
+right-totals q t f = fit-totals t (omega arith) (omega arith) (omega arith) (omega arith) (omega arith) (omega arith) (omega arith) (omega arith) (omega arith)
 
 fit-generation : (cfg : Config) (g : Generation) → ConfigFacts cfg → GenerationFacts cfg g → Fit (generation-words g)
 unfolding anchor-fits
@@ -110,7 +104,7 @@ fit-generation cfg g c f =
     let h : Bool = hash-fits (g .anchor .hash) in
     fit-cons (lit< tt) (fit-cons (fits (g .anchor .number) (and-left n h (f .anchor-fit)))
     (fit-append (fit-hash (g .anchor .hash) (and-right n h (f .anchor-fit)))
-    (fit-cons depth (fit-cons records (fit-cons awaiting (fit-totals (g .pending) (g .totals) (f .totals-add-up)))))))
+    (fit-cons depth (fit-cons records (fit-cons awaiting (right-totals (g .pending) (g .totals) (f .totals-add-up)))))))
 
 fit-tables : (capacity : ℕ) {e a r : List ℕ} → Fit e → Fit a → Fit r → Fit (table-words capacity e a r)
 fit-tables n p q s = fit-append (fit-padded ends-limit p) (fit-append (fit-padded awaiting-table q) (fit-padded (record-width * n) s))

@@ -1,23 +1,24 @@
 -- Each change of a generation's records keeps them right.
-use Prim.Native.Nat.{ℕ, suc}
-use mathlib.Core.Path.{_≡_, refl}
+use Prim.Native.Nat.{ℕ, zero, suc}
+use mathlib.Core.Path.{_≡_, refl, ap, _∙_}
 use mathlib.Core.Bool.{Bool, true, false, _&&_, cond}
 use mathlib.Core.List.{List, [], _∷_}
 use mathlib.Core.Option.{Option, some, none, Option·none-ne-some, Option·some-injective}
+use lib.ListN.{drop}
 use borrow.Author.Tests.{le-leb}
 use Rattle.model.specs.declared.storage_memo.Address.{Address}
 use Rattle.model.specs.declared.delta_snapshot.Slot.{Slot}
 use Rattle.model.specs.declared.delta_snapshot.Retention.{Retention}
 use Rattle.model.specs.Slots.{Value, LastUse, slot-eqb, slot-ltb, serves, fits-64, u256-fits}
 use Rattle.model.specs.declared.delta_snapshot.Content.{Content}
-use Rattle.model.specs.Contents.{valued, valued-use, touch, value-fits, content-fits, content-ok, top-content-ok}
+use Rattle.model.specs.Contents.{use-of, last-use-of, max-option, valued, valued-use, touch, value-fits, content-fits, content-ok, top-content-ok}
 use Rattle.model.specs.Layers.{LayerOf, Layer, find, insert, held-value, freshest-use, resolved-through-policy, all-slots}
 use Rattle.model.specs.Advance.{Write, apply-write, write-kind, unserved-kind, final-write-kind, relevant, seed-final-writes, compact-slots, compact-slot, compact, compact-if, is-void, seal}
 use Rattle.model.specs.Reads.{Member, settle-outcome, settle-members}
 use Rattle.image.specs.WellFormed.{slot-fits, every, rising-from, rising, chain-ok}
 use Rattle.image.specs.Claims.{writes-fit, members-fit}
 use Rattle.model.proofs.SlotLaws.{split, and-left, and-right, and-intro, slot-eqb-true, slot-ltb-total}
-use Rattle.model.proofs.ContentLaws.{content-parts, content-fits-valued, content-fits-touch, content-ok-later, UseWithValue, neither, both, Holds, use-with-value-at, content-ok-settle, content-ok-overwrite, content-ok-touch, content-ok-compact, content-ok-again}
+use Rattle.model.proofs.ContentLaws.{content-parts, use-over-all, content-fits-valued, content-fits-touch, content-ok-later, UseWithValue, neither, both, Holds, use-with-value-at, content-ok-settle, content-ok-overwrite, content-ok-touch, content-ok-compact, content-ok-again}
 use Rattle.model.proofs.LayerLaws.{find-compact, freshest-use-void, held-value-void}
 
 -- The tests of a record: over the layers below; of its numbers; in the top, over the base.
@@ -110,6 +111,19 @@ layer-ok n l ls e =
 pub chain-ok-layer : (n : ℕ) (l : Layer) (ls : List Layer) → LayerOk n l ls → chain-ok n (l ∷ ls) ≡ true
 unfolding chain-ok
 chain-ok-layer n l ls k = rw (k .sorted, k .contents-ok, k .records-fit, k .below-ok)
+
+-- A slot's last use does not fall from a layer to the next above: the highest record has the freshest use.
+pub highest-is-freshest : (n : ℕ) (l : Layer) (ls : List Layer) (s : Slot) (c : Content) → chain-ok n (l ∷ ls) ≡ true → find s l ≡ some c → freshest-use s (l ∷ ls) ≡ some (use-of c)
+unfolding freshest-use
+highest-is-freshest n l ls s c e q =
+    ap (λ (t : Option Content). max-option (last-use-of t) (freshest-use s ls)) q
+    ∙ use-over-all n (held-value s ls) (freshest-use s ls) c (find-every (right-over n ls) s l c (layer-ok n l ls e .contents-ok) q)
+
+-- The lowest layers of a right chain are a right chain.
+pub chain-ok-drop : (n i : ℕ) (ls : List Layer) → chain-ok n ls ≡ true → chain-ok n (drop i ls) ≡ true
+chain-ok-drop n zero ls e = e
+chain-ok-drop n (suc i) [] e = e
+chain-ok-drop n (suc i) (l ∷ ls) e = chain-ok-drop n i ls (layer-ok n l ls e .below-ok)
 
 use-with-value : (n : ℕ) (b : List Layer) → chain-ok n b ≡ true → (s : Slot) → UseWithValue n (slot-fits s) (freshest-use s b) (held-value s b)
 unfolding freshest-use held-value

@@ -6,20 +6,28 @@ use records::Found;
 ghost use mathlib.Core.Path.{_≡_};
 ghost use mathlib.Core.Bool.{true};
 ghost use Prim.Native.Nat.{_+_, _*_, _≤_, _<_};
-ghost use lib.ListN.{length};
-ghost use Rattle.layout.specs.Layout.{record-size};
-ghost use Rattle.model.specs.Contents.{is-some, max-option, held-option, last-use-of, value-of, valued-use};
+ghost use lib.ListN.{length, drop};
+ghost use Rattle.layout.specs.Layout.{record-size, records-offset};
+ghost use Rattle.model.specs.declared.delta_snapshot.Slot.{Slot};
+ghost use Rattle.model.specs.Contents.{is-some, held-option, use-of, has-value, valued-use};
 ghost use Rattle.model.specs.Layers.{find, held-value, freshest-use, record-count};
 ghost use Rattle.model.specs.Store.{chain, resolved};
 ghost use Rattle.image.specs.WellFormed.{rising};
 ghost use Rattle.image.specs.Area.{records-of, layers-below};
 ghost use Rattle.image.specs.Lent.{store-of, generation-of, IsStore, Installed, layer-of};
-ghost use Rattle.layers.specs.Answers.{use-option};
+ghost use Rattle.records.specs.Records.{place-in};
+ghost use Rattle.layers.specs.Answers.{use-option, row-content, PlaceOf, First, HighestIn, ValueAt};
 
 // The last use of a slot, if it has one.
 pub enum Use {
     None,
     At(u64),
+}
+
+// The highest record of a slot in some layers, if there is one: the number of its layer, and its own among all records of the store.
+pub enum Row {
+    None,
+    At { layer: usize, row: usize },
 }
 
 // The store's retention.
@@ -87,171 +95,170 @@ pub fn top_count(s: &[u8]) -> usize
     words::read_u64(s, layout::RECORDS_COUNT_OFFSET) as usize - top_start(s)
 }
 
-// The later of two uses.
-fn later(a: Use, b: Use) -> Use
-    ensures { λ r. ⌜ use-option r ≡ max-option (use-option a) (use-option b) ⌝ }
+// The last use of record `row` of all records.
+fn row_use(s: &[u8], row: usize) -> u64
+    requires { ⌜ records-offset + record-size * (row + 1) ≤ length (now s) ⌝ }
+    ensures { λ r. ⌜ r ≡ use-of (row-content row (now (s .entry))) ⌝ }
 {
-    let Use::At(x) = a else {
-        return b;
-    };
-    let Use::At(y) = b else {
-        return a;
-    };
-    if x < y { b } else { a }
+    records::last_use(&s[layout::RECORDS_OFFSET..], row)
 }
 
-// The last use of a slot among the n records that s begins with.
-fn use_in(s: &[u8], n: usize, slot: Slot) -> Use
-    requires { ⌜ (n * record-size ≤ length (now s)) × (rising (records-of n (now s)) ≡ true) ⌝ }
-    ensures { λ r. ⌜ use-option r ≡ last-use-of (find slot (records-of n (now (s .entry)))) ⌝ }
+// Whether record `row` of all records has a value.
+fn row_has(s: &[u8], row: usize) -> bool
+    requires { ⌜ records-offset + record-size * (row + 1) ≤ length (now s) ⌝ }
+    ensures { λ r. ⌜ r ≡ has-value (row-content row (now (s .entry))) ⌝ }
 {
-    let f = records::find(s, n, slot);
-    let Found::At(i) = f else {
-        return Use::None;
-    };
-    Use::At(records::last_use(s, i))
+    records::has_value(&s[layout::RECORDS_OFFSET..], row)
 }
 
-// The same, of a record that has a value.
-fn valued_use_in(s: &[u8], n: usize, slot: Slot) -> Use
-    requires { ⌜ (n * record-size ≤ length (now s)) × (rising (records-of n (now s)) ≡ true) ⌝ }
-    ensures { λ r. ⌜ use-option r ≡ valued-use (find slot (records-of n (now (s .entry)))) ⌝ }
+// The value of record `row` of all records, or none.
+fn row_held(s: &[u8], row: usize) -> Held
+    requires { ⌜ records-offset + record-size * (row + 1) ≤ length (now s) ⌝ }
+    ensures { λ r. ⌜ r ≡ row-content row (now (s .entry)) .held ⌝ }
 {
-    let f = records::find(s, n, slot);
-    let Found::At(i) = f else {
-        return Use::None;
-    };
-    if records::has_value(s, i) {
-        return Use::At(records::last_use(s, i));
+    records::held(&s[layout::RECORDS_OFFSET..], row)
+}
+
+// The place of a slot among the n records from record `start` on.
+fn place_from(s: &[u8], start: usize, n: usize, slot: Slot) -> Found
+    requires { ⌜ (records-offset + record-size * (start + n) ≤ length (now s)) × (rising (records-of n (drop (records-offset + record-size * start) (now s))) ≡ true) ⌝ }
+    ensures { λ r. ⌜ r ≡ place-in slot (records-of n (drop (records-offset + record-size * start) (now (s .entry)))) ⌝ }
+{
+    let at = layout::RECORDS_OFFSET + layout::RECORD_SIZE * start;
+    records::find(&s[at..], n, slot)
+}
+
+// The place of a slot among the top's records.
+pub fn top_place(s: &[u8], slot: Slot) -> Found
+    requires { ⌜ Installed (now s) ⌝ }
+    ensures { λ r. ⌜ r ≡ place-in slot (generation-of (now (s .entry)) .top) ⌝ }
+{
+    let n = top_count(s);
+    place_from(s, top_start(s), n, slot)
+}
+
+// The place of a slot among the records of layer k, which stand from `start` to `end`. A layer without records is not searched.
+fn layer_place(s: &[u8], k: usize, start: usize, end: usize, slot: Slot) -> Found
+    requires { ⌜ Installed (now s) × (k < length (generation-of (now s) .base)) × (start ≡ record-count (layers-below k (generation-of (now s) .base))) × (end ≡ record-count (layers-below (k + 1) (generation-of (now s) .base))) ⌝ }
+    ensures { λ r. ⌜ r ≡ place-in slot (layer-of k (generation-of (now (s .entry)) .base)) ⌝ }
+{
+    if start == end {
+        return Found::Absent(0);
     }
-    Use::None
+    place_from(s, start, end - start, slot)
 }
 
-// The value of a slot among the n records that s begins with.
-fn value_in(s: &[u8], n: usize, slot: Slot) -> Held
-    requires { ⌜ (n * record-size ≤ length (now s)) × (rising (records-of n (now s)) ≡ true) ⌝ }
-    ensures { λ r. ⌜ held-option r ≡ value-of (find slot (records-of n (now (s .entry)))) ⌝ }
+// The last use of a slot's record in the top, by its place there, if it has a value.
+pub fn top_valued_use(s: &[u8], place: Found) -> Use
+    requires { ⌜ Installed (now s) × PlaceOf place (generation-of (now s) .top) ⌝ }
+    ensures { λ r. ⌜ ((t : Slot) → place ≡ place-in t (generation-of (now (s .entry)) .top) → use-option r ≡ valued-use (find t (generation-of (now (s .entry)) .top))) ⌝ }
 {
-    let f = records::find(s, n, slot);
-    let Found::At(i) = f else {
-        return Held::Nothing;
+    let Found::At(i) = place else {
+        return Use::None;
     };
-    records::held(s, i)
+    let row = top_start(s) + i;
+    let Held::Value(_) = row_held(s, row) else {
+        return Use::None;
+    };
+    Use::At(row_use(s, row))
 }
 
-// The last use of a slot in layer k.
-fn layer_use(s: &[u8], k: usize, slot: Slot) -> Use
-    requires { ⌜ Installed (now s) × (k < length (generation-of (now s) .base)) ⌝ }
-    ensures { λ r. ⌜ use-option r ≡ last-use-of (find slot (layer-of k (generation-of (now (s .entry)) .base))) ⌝ }
+// The highest record of a slot in the layers below k: in layer k - 1, or from there down. Its use is the freshest there: a slot's last use does not fall from a layer to the next above.
+fn highest(s: &[u8], k: usize, slot: Slot) -> Row
+    requires { ⌜ Installed (now s) × (k ≤ length (generation-of (now s) .base)) ⌝ }
+    ensures { λ r. ⌜ HighestIn r slot k (now (s .entry)) ⌝ }
 {
-    let start = layer_start(s, k);
-    let n = layer_start(s, k + 1) - start;
-    let at = layout::RECORDS_OFFSET + layout::RECORD_SIZE * start;
-    use_in(&s[at..], n, slot)
+    if k == 0 {
+        return Row::None;
+    }
+    let start = layer_start(s, k - 1);
+    let place = layer_place(s, k - 1, start, layer_start(s, k), slot);
+    let Found::At(i) = place else {
+        if start == 0 {
+            return Row::None;
+        }
+        return highest(s, k - 1, slot);
+    };
+    Row::At {
+        layer: k - 1,
+        row: start + i,
+    }
 }
 
-// The value of a slot in layer k.
-fn layer_value(s: &[u8], k: usize, slot: Slot) -> Held
-    requires { ⌜ Installed (now s) × (k < length (generation-of (now s) .base)) ⌝ }
-    ensures { λ r. ⌜ held-option r ≡ value-of (find slot (layer-of k (generation-of (now (s .entry)) .base))) ⌝ }
+// The highest record of a slot with a value in the layers below k: its highest record there, or one from that record's layer down.
+fn value_row(s: &[u8], k: usize, slot: Slot) -> Row
+    requires { ⌜ Installed (now s) × (k ≤ length (generation-of (now s) .base)) ⌝ }
+    ensures { λ r. ⌜ ValueAt r (held-value slot (layers-below k (generation-of (now (s .entry)) .base))) (now (s .entry)) ⌝ }
 {
-    let start = layer_start(s, k);
-    let n = layer_start(s, k + 1) - start;
-    let at = layout::RECORDS_OFFSET + layout::RECORD_SIZE * start;
-    value_in(&s[at..], n, slot)
+    let found = highest(s, k, slot);
+    let Row::At { layer, row } = found else {
+        return Row::None;
+    };
+    if row_has(s, row) {
+        return Row::At { layer, row };
+    }
+    value_row(s, layer, slot)
 }
 
-// The last use of a slot in the top.
-pub fn top_use(s: &[u8], slot: Slot) -> Use
-    requires { ⌜ Installed (now s) ⌝ }
-    ensures { λ r. ⌜ use-option r ≡ last-use-of (find slot (generation-of (now (s .entry)) .top)) ⌝ }
-{
-    let n = top_count(s);
-    let at = layout::RECORDS_OFFSET + layout::RECORD_SIZE * top_start(s);
-    use_in(&s[at..], n, slot)
-}
-
-// The same, of a record that has a value.
-pub fn top_valued_use(s: &[u8], slot: Slot) -> Use
-    requires { ⌜ Installed (now s) ⌝ }
-    ensures { λ r. ⌜ use-option r ≡ valued-use (find slot (generation-of (now (s .entry)) .top)) ⌝ }
-{
-    let n = top_count(s);
-    let at = layout::RECORDS_OFFSET + layout::RECORD_SIZE * top_start(s);
-    valued_use_in(&s[at..], n, slot)
-}
-
-// The value of a slot in the top.
-fn top_value(s: &[u8], slot: Slot) -> Held
-    requires { ⌜ Installed (now s) ⌝ }
-    ensures { λ r. ⌜ held-option r ≡ value-of (find slot (generation-of (now (s .entry)) .top)) ⌝ }
-{
-    let n = top_count(s);
-    let at = layout::RECORDS_OFFSET + layout::RECORD_SIZE * top_start(s);
-    value_in(&s[at..], n, slot)
-}
-
-// The largest last use of a slot in the layers below k: in layer k - 1, or from there down.
+// The largest last use of a slot in the layers below k.
 pub fn freshest_use(s: &[u8], k: usize, slot: Slot) -> Use
     requires { ⌜ Installed (now s) × (k ≤ length (generation-of (now s) .base)) ⌝ }
     ensures { λ r. ⌜ use-option r ≡ freshest-use slot (layers-below k (generation-of (now (s .entry)) .base)) ⌝ }
 {
-    if k == 0 {
+    let used = highest(s, k, slot);
+    let Row::At { layer: _, row } = used else {
         return Use::None;
-    }
-    let own = layer_use(s, k - 1, slot);
-    let below = freshest_use(s, k - 1, slot);
-    later(own, below)
+    };
+    Use::At(row_use(s, row))
 }
 
-// The value of a slot in the highest of the layers below k that has one: in layer k - 1, or from there down.
-pub fn held_value(s: &[u8], k: usize, slot: Slot) -> Held
-    requires { ⌜ Installed (now s) × (k ≤ length (generation-of (now s) .base)) ⌝ }
-    ensures { λ r. ⌜ held-option r ≡ held-value slot (layers-below k (generation-of (now (s .entry)) .base)) ⌝ }
+// The record whose value a look of a slot answers whose highest record is `row`: this one, or one from layer k - 1 down, if its use serves.
+fn served(s: &[u8], k: usize, row: usize, slot: Slot) -> Row
+    requires { ⌜ Installed (now s) × First slot (chain (generation-of (now s))) k row (now s) ⌝ }
+    ensures { λ r. ⌜ ValueAt r (resolved (store-of (now (s .entry)) .config .retention) (generation-of (now (s .entry))) slot) (now (s .entry)) ⌝ }
 {
-    if k == 0 {
+    let used = row_use(s, row);
+    if !retention(s).serves(used, installed_number(s)) {
+        return Row::None;
+    }
+    if row_has(s, row) {
+        return Row::At { layer: k, row };
+    }
+    value_row(s, k, slot)
+}
+
+// The record whose value a look of a slot answers, by the slot's place in the top, if the slot's freshest use serves.
+pub fn served_row(s: &[u8], place: Found, slot: Slot) -> Row
+    requires { ⌜ Installed (now s) × (place ≡ place-in slot (generation-of (now s) .top)) ⌝ }
+    ensures { λ r. ⌜ ValueAt r (resolved (store-of (now (s .entry)) .config .retention) (generation-of (now (s .entry))) slot) (now (s .entry)) ⌝ }
+{
+    let n = layers(s);
+    if let Found::At(i) = place {
+        return served(s, n, top_start(s) + i, slot);
+    }
+    let found = highest(s, n, slot);
+    let Row::At { layer, row } = found else {
+        return Row::None;
+    };
+    served(s, layer, row, slot)
+}
+
+// What a look of a slot answers, by its place in the top.
+pub fn resolved_at(s: &[u8], place: Found, slot: Slot) -> Held
+    requires { ⌜ Installed (now s) × (place ≡ place-in slot (generation-of (now s) .top)) ⌝ }
+    ensures { λ r. ⌜ held-option r ≡ resolved (store-of (now (s .entry)) .config .retention) (generation-of (now (s .entry))) slot ⌝ }
+{
+    let found = served_row(s, place, slot);
+    let Row::At { layer: _, row } = found else {
         return Held::Nothing;
-    }
-    let own = layer_value(s, k - 1, slot);
-    let Held::Nothing = own else {
-        return own;
     };
-    held_value(s, k - 1, slot)
+    row_held(s, row)
 }
 
-// The freshest use of a slot in the top and the base.
-pub fn chain_use(s: &[u8], slot: Slot) -> Use
-    requires { ⌜ Installed (now s) ⌝ }
-    ensures { λ r. ⌜ use-option r ≡ freshest-use slot (chain (generation-of (now (s .entry)))) ⌝ }
-{
-    let own = top_use(s, slot);
-    let below = freshest_use(s, layers(s), slot);
-    later(own, below)
-}
-
-// The held value of a slot in the top and the base.
-pub fn chain_value(s: &[u8], slot: Slot) -> Held
-    requires { ⌜ Installed (now s) ⌝ }
-    ensures { λ r. ⌜ held-option r ≡ held-value slot (chain (generation-of (now (s .entry)))) ⌝ }
-{
-    let own = top_value(s, slot);
-    let Held::Nothing = own else {
-        return own;
-    };
-    held_value(s, layers(s), slot)
-}
-
-// What a look of a slot answers: its value, if its freshest use serves.
+// What a look of a slot answers.
 pub fn resolved(s: &[u8], slot: Slot) -> Held
     requires { ⌜ Installed (now s) ⌝ }
     ensures { λ r. ⌜ held-option r ≡ resolved (store-of (now (s .entry)) .config .retention) (generation-of (now (s .entry))) slot ⌝ }
 {
-    let used = chain_use(s, slot);
-    let Use::At(u) = used else {
-        return Held::Nothing;
-    };
-    if retention(s).serves(u, installed_number(s)) {
-        return chain_value(s, slot);
-    }
-    Held::Nothing
+    resolved_at(s, top_place(s, slot), slot)
 }

@@ -95,6 +95,14 @@ content-parts n h f c e =
 pub content-ok-parts : (n : ℕ) (h : Option Value) (f : Option LastUse) (c : Content) → ContentOk n h f c → content-ok n h f c ≡ true
 content-ok-parts n h f c k = and-intro _ _ (k .some-value) (and-intro _ _ (k .use-over) (le-leb _ _ (k .use-within)))
 
+-- Its last use is the freshest of its own and those below.
+use-over-at-most : (f : Option LastUse) (u : LastUse) → at-most f u ≡ true → max-option (some u) f ≡ some u
+use-over-at-most none u e = refl
+use-over-at-most (some w) u e = let h : max u w ≡ u = omega (arith, leb-true w u e) in ap some h
+
+pub use-over-all : (n : ℕ) (h : Option Value) (f : Option LastUse) (c : Content) → content-ok n h f c ≡ true → max-option (some (use-of c)) f ≡ some (use-of c)
+use-over-all n h f c e = use-over-at-most f (use-of c) (content-parts n h f c e .use-over)
+
 -- One number later.
 pub content-ok-later : (n : ℕ) (c : Content) (f : Option LastUse) (h : Option Value) → content-ok n h f c ≡ true → content-ok (suc n) h f c ≡ true
 content-ok-later n c f h e =

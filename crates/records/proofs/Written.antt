@@ -5,11 +5,11 @@ use mathlib.Core.List.{List, [], _∷_, _++_, append-assoc, append-nil}
 use native.Mathlib.Omega.{arith}
 use lib.ListN.{length, take, drop, length-append, length-take, length-drop}
 use lib.Seq.{take-at, drop-at, drop-drop, length-take-le}
-use Rattle.layout.specs.Layout.{content-size, record-size, record-width, slot-size, slot-width}
+use Rattle.layout.specs.Layout.{record-size, record-width, slot-size, slot-width}
 use Rattle.model.specs.Numbers.{be}
 use Rattle.model.specs.declared.delta_snapshot.Content.{Content}
-use Rattle.model.specs.Contents.{use-of, own-value, value-words, content-words}
-use Rattle.model.proofs.ContentLaws.{content-wide}
+use Rattle.model.specs.declared.delta_snapshot.Held.{Held}
+use Rattle.model.specs.Contents.{held-option, value-words, content-words}
 use Rattle.words.specs.Parts.{part, placed}
 use Rattle.words.specs.Moved.{moved}
 use Rattle.words.proofs.Moves.{gap-filled}
@@ -35,6 +35,19 @@ placed-after at b v r s e h =
     let u : drop (b + length r) (a ++ v ++ d) ≡ drop (at + length (v ++ r)) s =
     sym (drop-drop (length r) b (a ++ v ++ d)) ∙ ap (drop (length r)) (drop-at (a ++ v) d b m) ∙ drop-drop (length r) (at + length v) s ∙ ap (λ (k : ℕ). drop k s) j in
     ap₂ (λ (x y : List ℕ). x ++ r ++ y) t u ∙ ap (λ (x : List ℕ). x ++ drop (at + length (v ++ r)) s) (append-assoc a v r)
+
+-- Bytes placed over the first of others that were placed.
+pub placed-first : (at : ℕ) (w v r s : List ℕ) → length w ≡ length v → at + length (v ++ r) ≤ length s → placed at w (placed at (v ++ r) s) ≡ placed at (w ++ r) s
+placed-first at w v r s e h =
+    let a = take at s in
+    let d = drop (at + length (v ++ r)) s in
+    let n : length a ≡ at = length-take-le at s (omega arith) in
+    let m : length (a ++ v) ≡ at + length w = length-append a v ∙ omega arith in
+    let t : take at (a ++ (v ++ r) ++ d) ≡ a = ap (take at) (append-assoc a (v ++ r) d) ∙ take-at a (v ++ r ++ d) at n in
+    let u : drop (at + length w) (a ++ (v ++ r) ++ d) ≡ r ++ d =
+    ap (λ (x : List ℕ). drop (at + length w) (x ++ d)) (sym (append-assoc a v r)) ∙ ap (drop (at + length w)) (append-assoc (a ++ v) r d) ∙ drop-at (a ++ v) (r ++ d) (at + length w) m in
+    let j : at + length (v ++ r) ≡ at + length (w ++ r) = omega (arith, length-append v r, length-append w r) in
+    ap₂ (λ (x y : List ℕ). x ++ w ++ y) t u ∙ sym (append-assoc (a ++ w) r d) ∙ ap (λ (x : List ℕ). x ++ d) (append-assoc a w r) ∙ ap (λ (k : ℕ). a ++ (w ++ r) ++ drop k s) j
 
 -- One word, more words after others, and one word more.
 pub one-word : (at w : ℕ) (s : List ℕ) {t : List ℕ} → t ≡ placed at (be 8 w) s → t ≡ placed at (bytes-of (w ∷ [])) s
@@ -72,15 +85,10 @@ seven-words at w0 w1 w2 w3 w4 w5 s e0 e1 e2 e3 e4 e5 w6 e6 h =
     let p5 = word-more at 40 w5 (w0 ∷ w1 ∷ w2 ∷ w3 ∷ w4 ∷ []) s refl (omega arith) p4 e5 in
     word-more at 48 w6 (w0 ∷ w1 ∷ w2 ∷ w3 ∷ w4 ∷ w5 ∷ []) s refl (omega arith) p5 e6
 
--- A content: its use, its value or none, and a word 0.
-pub content-put : (at : ℕ) (c : Content) (s : List ℕ) {t0 t1 t2 : List ℕ} → at + content-size ≤ length s
-    → t0 ≡ placed at (be 8 (use-of c)) s → t1 ≡ placed (at + 8) (bytes-of (value-words (own-value c))) t0 → t2 ≡ placed (at + 48) (be 8 0) t1 → t2 ≡ placed at (bytes-of (content-words c)) s
-content-put at c s h e0 e1 e2 =
-    let v = value-words (own-value c) in
-    let n : length v ≡ 5 = omega (arith, content-wide c, length-append v (0 ∷ [])) in
-    let p0 = one-word at (use-of c) s e0 in
-    let p1 = words-more at 8 v (use-of c ∷ []) s refl (omega arith) p0 e1 in
-    word-more at 48 0 (use-of c ∷ v) s (omega arith) (omega arith) p1 e2
+-- The words of a content, by what it holds.
+pub content-put : (at : ℕ) (c : Content) (h : Held) (s : List ℕ) {t : List ℕ} → c .held ≡ h → t ≡ placed at (bytes-of (c .used ∷ (value-words (held-option h) ++ (0 ∷ [])))) s
+    → t ≡ placed at (bytes-of (content-words c)) s
+content-put at c h s e f = f ∙ ap (λ (x : Held). placed at (bytes-of (c .used ∷ (value-words (held-option x) ++ (0 ∷ [])))) s) (sym e)
 
 -- A run moved up by a record's bytes, and a record's words in the gap.
 length-moved : (at len by : ℕ) (s : List ℕ) → at + by + len ≤ length s → length (moved at len by s) ≡ length s

@@ -7,13 +7,13 @@ use model::storage_memo::U256;
 ghost use mathlib.Core.Path.{_≡_};
 ghost use mathlib.Core.Bool.{true, cond};
 ghost use Prim.Native.Nat.{_+_, _-_, _*_, _≤_, _<_, _^_};
-ghost use mathlib.Core.List.{_∷_, _++_};
+ghost use mathlib.Core.List.{_∷_, [], _++_};
 ghost use lib.Dec.{ltb};
 ghost use lib.ListN.{length, take, drop};
 ghost use Rattle.layout.specs.Layout.{content-size, record-size, slot-size, slot-width, value-index};
 ghost use Rattle.model.specs.Numbers.{num};
-ghost use Rattle.model.specs.Slots.{slot-words, u256-words, read-u256};
-ghost use Rattle.model.specs.Contents.{held-option, use-of, has-value, touch, value-words, content-words};
+ghost use Rattle.model.specs.Slots.{slot-words, read-u256};
+ghost use Rattle.model.specs.Contents.{use-of, has-value, touch, content-words};
 ghost use Rattle.model.specs.Layers.{Layer, find, insert};
 ghost use Rattle.words.specs.Parts.{part, placed};
 ghost use Rattle.image.specs.Image.{words-of, bytes-of, read-slot, read-record};
@@ -171,48 +171,30 @@ pub fn write_slot(s: &mut [u8], at: usize, slot: Slot)
     words::write_u64(s, at + 48, slot.index.w3);
 }
 
-// Writes a flag and a value at `at`.
-fn write_value(s: &mut [u8], at: usize, flag: u64, value: U256)
-    requires { ⌜ at + 40 ≤ length (now s) ⌝ }
-    ensures { λ _. ⌜ now (s .exit) ≡ placed at (bytes-of (flag ∷ u256-words value)) (now (s .entry)) ⌝ }
+// Writes the seven words of a content at `at`: its last use, whether it has a value, the value, and no second use.
+fn write_words(s: &mut [u8], at: usize, used: u64, has: u64, w0: u64, w1: u64, w2: u64, w3: u64)
+    requires { ⌜ at + content-size ≤ length (now s) ⌝ }
+    ensures { λ _. ⌜ now (s .exit) ≡ placed at (bytes-of (used ∷ has ∷ w0 ∷ w1 ∷ w2 ∷ w3 ∷ 0 ∷ [])) (now (s .entry)) ⌝ }
 {
-    words::write_u64(s, at, flag);
-    words::write_u64(s, at + 8, value.w0);
-    words::write_u64(s, at + 16, value.w1);
-    words::write_u64(s, at + 24, value.w2);
-    words::write_u64(s, at + 32, value.w3);
+    words::write_u64(s, at, used);
+    words::write_u64(s, at + 8, has);
+    words::write_u64(s, at + 16, w0);
+    words::write_u64(s, at + 24, w1);
+    words::write_u64(s, at + 32, w2);
+    words::write_u64(s, at + 40, w3);
+    words::write_u64(s, at + 48, 0);
 }
 
-// Writes a value or none at `at`.
-fn write_held(s: &mut [u8], at: usize, held: Held)
-    requires { ⌜ at + 40 ≤ length (now s) ⌝ }
-    ensures { λ _. ⌜ now (s .exit) ≡ placed at (bytes-of (value-words (held-option held))) (now (s .entry)) ⌝ }
-{
-    match held {
-        Held::Nothing => {
-            let zero = U256 {
-                w0: 0,
-                w1: 0,
-                w2: 0,
-                w3: 0,
-            };
-            write_value(s, at, 0, zero);
-        }
-        Held::Value(v) => {
-            write_value(s, at, 1, v);
-        }
-    }
-}
-
-// Writes a content at `at`, with no second use.
+// Writes a content at `at`.
 pub fn write_content(s: &mut [u8], at: usize, c: Content)
     requires { ⌜ at + content-size ≤ length (now s) ⌝ }
     ensures { λ _. ⌜ now (s .exit) ≡ placed at (bytes-of (content-words c)) (now (s .entry)) ⌝ }
 {
     let held = c.held;
-    words::write_u64(s, at, c.used);
-    write_held(s, at + 8, held);
-    words::write_u64(s, at + 48, 0);
+    match held {
+        Held::Nothing => write_words(s, at, c.used, 0, 0, 0, 0, 0),
+        Held::Value(v) => write_words(s, at, c.used, 1, v.w0, v.w1, v.w2, v.w3),
+    }
 }
 
 // The place of a slot among n entries of `wide` bytes each, which begin with their slots and rise, by halves.
@@ -277,25 +259,23 @@ pub fn set(s: &mut [u8], n: usize, place: Found, slot: Slot, c: Content) -> usiz
     }
 }
 
-// Sets the last use of a slot's record, which stands or goes at `place`; its value stays. The number of records then.
+// Sets the last use of a slot's record, which stands or goes at `place`; its value stays, and is not written. The number of records then.
 pub fn touch(s: &mut [u8], n: usize, place: Found, slot: Slot, used: u64) -> usize
     requires { ⌜ Ready place slot n (now s) ⌝ }
     ensures { λ r. ⌜ Holds r (now (s .exit)) (insert slot (touch used (find slot (records-of n (now (s .entry))))) (records-of n (now (s .entry)))) (now (s .entry)) ⌝ }
 {
     match place {
         Found::At(i) => {
-            let c = content(s, i).touch(used);
-            set(s, n, place, slot, c)
+            words::write_u64(s, i * layout::RECORD_SIZE + layout::LAST_USE_OFFSET, used);
+            n
         }
-        Found::Absent(_) => set(
-            s,
-            n,
-            place,
-            slot,
-            Content {
+        Found::Absent(i) => {
+            let c = Content {
                 used,
                 held: Held::Nothing,
-            },
-        ),
+            };
+            insert_at(s, n, i, slot, c);
+            n + 1
+        }
     }
 }

@@ -1,15 +1,18 @@
 -- The laws of `group`, `newest-value` and `freshest`: one record more, and a layer more.
 use mathlib.Core.Path.{_≡_, refl, sym, ap, _∙_}
-use mathlib.Core.Bool.{Bool, true, false, _||_, true≢false}
-use mathlib.Core.List.{[], _∷_, _++_}
+use mathlib.Core.Bool.{Bool, true, false, _||_, cond, true≢false}
+use mathlib.Core.List.{[], _∷_, _++_, append-nil}
 use mathlib.Core.Option.{Option, some, none}
-use Prim.Native.Nat.{ℕ, max}
+use Prim.Native.Nat.{ℕ, zero, suc, _+_, _≤_, _<_, max}
+use lib.ListN.{length, take, getD}
+use lib.Seq.{take-suc}
 use native.Mathlib.Omega.{arith}
 use Rattle.model.specs.declared.delta_snapshot.Slot.{Slot}
 use Rattle.model.specs.Slots.{Value, slot-eqb}
 use Rattle.model.specs.Contents.{last-use-of, value-of, own-value, use-of, has-value, or-else, max-option, is-some}
 use Rattle.model.specs.Layers.{LayerOf, Record, Layer}
 use Rattle.model.proofs.SlotLaws.{split}
+use Rattle.order.specs.Index.{no-record}
 use Rattle.order.proofs.WalkLaws.{along}
 use Rattle.rules.specs.Rules.{group, newest-value, freshest}
 
@@ -17,6 +20,22 @@ pub group-append : {A : Type 0} (s : Slot) (rs qs : LayerOf A) → group s (rs +
 unfolding group
 group-append s [] qs = refl
 group-append s (r ∷ rs) qs = split (slot-eqb (r .slot) s) (λ e. rw (e, group-append s rs qs)) (λ e. rw (e, group-append s rs qs))
+
+-- One record more of those that a list begins with.
+pub group-more : (rs : Layer) (s : Slot) (k : ℕ) → k < length rs → (b : Bool) → slot-eqb (getD rs k no-record .slot) s ≡ b
+    → group s (take (suc k) rs) ≡ cond b (group s (take k rs) ++ (getD rs k no-record ∷ [])) (group s (take k rs))
+unfolding group
+group-more rs s k h true e = ap (group s) (take-suc rs k no-record h) ∙ group-append s (take k rs) (getD rs k no-record ∷ []) ∙ rw e
+group-more rs s k h false e = ap (group s) (take-suc rs k no-record h) ∙ group-append s (take k rs) (getD rs k no-record ∷ []) ∙ rw e (append-nil (group s (take k rs)))
+
+-- Records of other slots leave the group as it was: those from record p on, of which there are m.
+pub group-others : (rs : Layer) (s : Slot) (p m : ℕ) → p + m ≤ length rs → ((k : ℕ) → p ≤ k → k < p + m → slot-eqb (getD rs k no-record .slot) s ≡ false) → group s (take (p + m) rs) ≡ group s (take p rs)
+group-others rs s p zero h f = let z : p + 0 ≡ p = omega arith in ap (λ (k : ℕ). group s (take k rs)) z
+group-others rs s p (suc m) h f =
+    let z : p + suc m ≡ suc (p + m) = omega arith in
+    ap (λ (k : ℕ). group s (take k rs)) z
+    ∙ group-more rs s (p + m) (omega arith) false (f (p + m) (omega arith) (omega arith))
+    ∙ group-others rs s p m (omega arith) (λ k g l. f k g (omega arith))
 
 -- Bools ------------------------------------------------------------------------------------------------------------
 

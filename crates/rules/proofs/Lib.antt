@@ -3,3 +3,4 @@ pub mod FieldLaws
 pub mod GroupLaws
 pub mod RuleLaws
 pub mod LayerLaws
+pub mod LastLaws

@@ -1,7 +1,7 @@
 -- The walk that holds each record against its rules finds none broken exactly where the rules hold.
 use mathlib.Core.Path.{_≡_, refl, sym, ap, ap₂, subst, _∙_}
 use mathlib.Core.Bool.{Bool, true, false, not, _&&_, _||_, cond, true≢false}
-use mathlib.Core.List.{List, [], _∷_, _++_, map, append-nil}
+use mathlib.Core.List.{List, [], _∷_, _++_, map}
 use mathlib.Core.Option.{Option, some, none}
 use Prim.Native.Nat.{ℕ, zero, suc, _+_, _*_, _≤_, _<_, _-_, max}
 use native.Mathlib.Omega.{arith}
@@ -29,7 +29,7 @@ use Rattle.order.specs.Index.{slot-at}
 use Rattle.rules.specs.Rules.{group, newest-value, freshest, rule, rules-from, cross-rules, oldest-use, broken}
 use Rattle.order.proofs.CountLaws.{mem, count, count-none, count-zero}
 use Rattle.order.proofs.WalkLaws.{along, walk, walk-says}
-use Rattle.rules.proofs.GroupLaws.{or-comm, or-zero, or-zero-max, is-some-or-else, group-append, newest-snoc, freshest-snoc, use-of-valued}
+use Rattle.rules.proofs.GroupLaws.{or-comm, or-zero, or-zero-max, is-some-or-else, newest-snoc, freshest-snoc, use-of-valued, group-more}
 
 -- One record ------------------------------------------------------------------------------------------------------
 
@@ -63,7 +63,7 @@ none-valued false true = refl
 none-valued false false = refl
 
 -- The rules of a content over records of its slot with held value h and freshest use f, and the test that is made.
-content-broken : (R : Retention) (now : ℕ) (t : Bool) (c : Content) (h : Option Value) (f : Option LastUse) → (is-some h ≡ true → is-some f ≡ true)
+pub content-broken : (R : Retention) (now : ℕ) (t : Bool) (c : Content) (h : Option Value) (f : Option LastUse) → (is-some h ≡ true → is-some f ≡ true)
     → (content-ok now h f c && (not t || top-content-ok R now f c)) ≡ not (broken (oldest-use R now) now t (has-value c) (is-some h) (or-zero f) (use-of c))
 content-broken R now t c h f q = go (has-value c) (use-of c) h f q
   where
@@ -123,6 +123,16 @@ mem-at [] k h = absurd (omega arith)
 mem-at (x ∷ ss) zero h = rw (eq-eqb x x refl)
 mem-at (x ∷ ss) (suc k) h = or-right (eqb x (getD ss k 0)) (mem (getD ss k 0) ss) (mem-at ss k (omega arith))
 
+-- The rules from record k on: its own, and those from the next on.
+pub rules-step : (R : Retention) (now top : ℕ) (rs : Layer) (k : ℕ) → k < length rs
+    → rules-from R now top (take k rs) (drop k rs) ≡ (rule R now (leb top k) (take k rs) (getD rs k no-record) && rules-from R now top (take (suc k) rs) (drop (suc k) rs))
+unfolding rules-from
+rules-step R now top rs k h =
+    let r : Record = getD rs k no-record in
+    let e : length (take k rs) ≡ k = length-take-le k rs (omega arith) in
+    ap (rules-from R now top (take k rs)) (drop-cons rs k no-record h)
+    ∙ ap₂ (λ (i : ℕ) (l : Layer). rule R now (leb top i) (take k rs) r && rules-from R now top l (drop (suc k) rs)) e (sym (take-suc rs k no-record h))
+
 -- All records ---------------------------------------------------------------------------------------------------------
 
 module _ (R : Retention) (now top : ℕ) (rs : Layer) (fit : (k : ℕ) → k < length rs → Fit (slot-words (getD rs k no-record .slot))) where
@@ -143,12 +153,6 @@ module _ (R : Retention) (now top : ℕ) (rs : Layer) (fit : (k : ℕ) → k < l
       ∙ along-append f unmet (pick ss v (up-from 0 k)) (pick ss v (k ∷ []))
       ∙ along-pick f (along f unmet (pick ss v (up-from 0 k))) ss v k b e
 
-  group-more : (s : Slot) (k : ℕ) → k < length rs → (b : Bool) → slot-eqb (getD rs k no-record .slot) s ≡ b
-      → group s (take (suc k) rs) ≡ cond b (group s (take k rs) ++ (getD rs k no-record ∷ [])) (group s (take k rs))
-  unfolding group
-  group-more s k h true e = ap (group s) (take-suc rs k no-record h) ∙ group-append s (take k rs) (getD rs k no-record ∷ []) ∙ rw e
-  group-more s k h false e = ap (group s) (take-suc rs k no-record h) ∙ group-append s (take k rs) (getD rs k no-record ∷ []) ∙ rw e (append-nil (group s (take k rs)))
-
   knows : (s : Slot) → Fit (slot-words s) → (k : ℕ) → k ≤ length rs → Knows (after (oldest-use R now) now top rs (slot-number s) k) (group s (take k rs))
   unfolding along pick up-from group newest-value freshest
   knows s fs zero h = record { any-is = refl; low-is = refl }
@@ -161,9 +165,9 @@ module _ (R : Retention) (now top : ℕ) (rs : Layer) (fit : (k : ℕ) → k < l
       let q : eqb (getD (map number-of rs) k 0) v ≡ slot-eqb (r .slot) s = ap (λ (x : ℕ). eqb x v) (number-is k) ∙ sym (slot-eqb-number (r .slot) s (fit k l) fs) in
       split (slot-eqb (r .slot) s)
       (λ e. subst (λ (m : Met). Knows m (group s (take (suc k) rs))) (sym (after-more v k true (q ∙ e)))
-      (subst (λ (g : Layer). Knows (meets o now top rs (after o now top rs v k) k) g) (sym (group-more s k l true e)) (knows-more o now (leb top k) (after o now top rs v k) (group s (take k rs)) r ih)))
+      (subst (λ (g : Layer). Knows (meets o now top rs (after o now top rs v k) k) g) (sym (group-more rs s k l true e)) (knows-more o now (leb top k) (after o now top rs v k) (group s (take k rs)) r ih)))
       (λ e. subst (λ (m : Met). Knows m (group s (take (suc k) rs))) (sym (after-more v k false (q ∙ e)))
-      (subst (λ (g : Layer). Knows (after o now top rs v k) g) (sym (group-more s k l false e)) ih))
+      (subst (λ (g : Layer). Knows (after o now top rs v k) g) (sym (group-more rs s k l false e)) ih))
 
   -- whether record k breaks its rules, by what is known of its slot before it
   breaks-at : ℕ → Bool
@@ -185,13 +189,8 @@ module _ (R : Retention) (now top : ℕ) (rs : Layer) (fit : (k : ℕ) → k < l
   rules-at k = rules-from R now top (take k rs) (drop k rs)
 
   rules-more : (k : ℕ) → k < length rs → rules-at k ≡ (not (breaks-at k) && rules-at (suc k))
-  unfolding rules-from rules-at
-  rules-more k h =
-      let r : Record = getD rs k no-record in
-      let e : length (take k rs) ≡ k = length-take-le k rs (omega arith) in
-      ap (rules-from R now top (take k rs)) (drop-cons rs k no-record h)
-      ∙ ap₂ (λ (i : ℕ) (l : Layer). rule R now (leb top i) (take k rs) r && rules-from R now top l (drop (suc k) rs)) e (sym (take-suc rs k no-record h))
-      ∙ ap (λ (b : Bool). b && rules-at (suc k)) (rule-at k h)
+  unfolding rules-at
+  rules-more k h = rules-step R now top rs k h ∙ ap (λ (b : Bool). b && rules-at (suc k)) (rule-at k h)
 
   -- rules that hold leave no slot bad
   none-bad : (j k : ℕ) → k + j ≡ length rs → rules-at k ≡ true → ((v : ℕ) → after (oldest-use R now) now top rs v k .bad ≡ false)

@@ -1,17 +1,21 @@
 -- The rules across layers of document 01's well-formed store, over its records as they stand: the lowest layer's first, the top's last.
-use Prim.Native.Nat.{ℕ, _-_}
-use mathlib.Core.Bool.{Bool, true, not, _&&_, _||_, cond}
+use Prim.Native.Nat.{ℕ, zero, suc, _-_}
+use mathlib.Core.Path.{_≡_}
+use mathlib.Core.Bool.{Bool, true, false, not, _&&_, _||_, cond}
 use mathlib.Core.List.{List, [], _∷_, _++_}
 use mathlib.Core.Option.{Option, some, none}
 use lib.Dec.{leb, ltb}
-use lib.ListN.{length}
+use lib.ListN.{length, getD}
 use Rattle.model.specs.declared.delta_snapshot.Slot.{Slot}
 use Rattle.model.specs.declared.delta_snapshot.Retention.{Retention}
 use Rattle.model.specs.declared.delta_snapshot.Retention.the-variants.{Unbounded, IdleBlocks}
 use Rattle.model.specs.Slots.{Value, LastUse, slot-eqb}
-use Rattle.model.specs.Contents.{last-use-of, value-of, or-else, max-option, content-ok, top-content-ok}
+use Rattle.model.specs.Contents.{last-use-of, value-of, or-else, max-option, content-ok, top-content-ok, use-of, has-value}
 use Rattle.model.specs.Layers.{LayerOf, Record, Layer, held-value, freshest-use}
 use Rattle.image.specs.WellFormed.{every, rising}
+use Rattle.order.specs.Index.{no-record}
+use Rattle.rules.specs.declared.Verdict.{Verdict}
+use Rattle.rules.specs.declared.Verdict.the-variants.{Hold, Broken, Open}
 
 -- The records of a slot, in their order: the lowest layer's first.
 unfoldable pub group : {A : Type 0} → Slot → LayerOf A → LayerOf A
@@ -64,3 +68,14 @@ oldest-use (IdleBlocks n) now = now - n
 -- Whether a record breaks its rules: of the oldest use that serves, the installed number, whether it is in the top and has a value, whether a record of its slot below has one, their freshest use (0 for none), its own use.
 abbrev pub broken : ℕ → ℕ → Bool → Bool → Bool → ℕ → ℕ → Bool
 broken oldest now in-top has any low u = ltb u low || (ltb now u || (not has && (not any || (in-top && ltb low oldest))))
+
+-- The same of record i of rs, where every record below is right and p says which is the last one of its slot below: one more than its number, or 0 for none.
+abbrev pub broken-over : ℕ → ℕ → Bool → Layer → ℕ → ℕ → Bool
+broken-over oldest now in-top rs i zero = broken oldest now in-top (has-value (getD rs i no-record .content)) false 0 (use-of (getD rs i no-record .content))
+broken-over oldest now in-top rs i (suc k) = broken oldest now in-top (has-value (getD rs i no-record .content)) true (use-of (getD rs k no-record .content)) (use-of (getD rs i no-record .content))
+
+-- What the check by a table says of whether the rules hold.
+abbrev pub Says : Verdict → Bool → Type 0
+Says Hold b = b ≡ true
+Says Broken b = b ≡ false
+Says Open b = Unit {0}

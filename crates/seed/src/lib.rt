@@ -5,6 +5,7 @@ use model::delta_snapshot::Held;
 use model::delta_snapshot::Slot;
 use model::storage_memo::Address;
 use model::storage_memo::U256;
+use records::Found;
 use replies::WriteCounts;
 ghost use mathlib.Core.Path.{_≡_};
 ghost use mathlib.Core.Bool.{true, cond};
@@ -16,6 +17,7 @@ ghost use Rattle.model.specs.Layers.{find, freshest-use, insert};
 ghost use Rattle.model.specs.Advance.{relevant, unserved-kind, write-kind, final-write-kind};
 ghost use Rattle.model.specs.Entries.{u256-at, address-of, slot-of, addresses-of};
 ghost use Rattle.image.specs.Lent.{store-of, generation-of, Installed};
+ghost use Rattle.records.specs.Records.{place-in};
 ghost use Rattle.seed.specs.Rising.{address-ltb, Rise, RiseIf, bucket-of, Noted, Indexed};
 ghost use Rattle.seed.specs.Writes.{kind-of, applied-kind, Settled, Wrote, count-one, SeededAs};
 
@@ -202,23 +204,29 @@ fn base_kind(s: &[u8], addresses: &[u8], table: &[u16], rise: bool, slot: Slot) 
     unserved(addresses, table, rise, slot.address)
 }
 
-// What a write does: a slot that the top has a value of was written earlier, and its use is kept.
-fn kind(s: &[u8], addresses: &[u8], table: &[u16], rise: bool, slot: Slot) -> WriteKind
-    requires { ⌜ Installed (now s) × Indexed rise (now table) (now addresses) ⌝ }
+// What a write does, by the slot's place in the top: a slot that the top has a value of was written earlier, and its use is kept.
+fn kind(
+    s: &[u8],
+    addresses: &[u8],
+    table: &[u16],
+    rise: bool,
+    place: Found,
+    slot: Slot,
+) -> WriteKind
+    requires { ⌜ Installed (now s) × Indexed rise (now table) (now addresses) × (place ≡ place-in slot (generation-of (now s) .top)) ⌝ }
     ensures { λ r. ⌜ kind-of r ≡ final-write-kind (store-of (now (s .entry)) .config .retention) (generation-of (now (s .entry)) .anchor .number) (relevant (addresses-of (now (addresses .entry))) (slot .address)) (valued-use (find slot (generation-of (now (s .entry)) .top))) (freshest-use slot (generation-of (now (s .entry)) .base)) ⌝ }
 {
-    match layers::top_valued_use(s, slot) {
+    match layers::top_valued_use(s, place) {
         Use::None => base_kind(s, addresses, table, rise, slot),
         Use::At(u) => WriteKind::Overwrite(u),
     }
 }
 
-// Sets a slot's record in the top to a content if there is room for it; whether there is.
-fn set_if_room(s: &mut [u8], slot: Slot, c: Content) -> bool
-    requires { ⌜ Installed (now s) ⌝ }
+// Sets a slot's record in the top, which stands or goes at `place`, to a content if there is room for it; whether there is.
+fn set_if_room(s: &mut [u8], place: Found, slot: Slot, c: Content) -> bool
+    requires { ⌜ Installed (now s) × (place ≡ place-in slot (generation-of (now s) .top)) ⌝ }
     ensures { λ r. ⌜ Settled r (now (s .exit)) (insert slot c (generation-of (now (s .entry)) .top)) (now (s .entry)) ⌝ }
 {
-    let place = top::top_place(s, slot);
     if !top::has_room(s, place) {
         return false;
     }
@@ -249,14 +257,15 @@ fn apply(
     requires { ⌜ Installed (now s) × Indexed rise (now table) (now addresses) ⌝ }
     ensures { λ r. ⌜ Wrote r (now (s .exit)) (now (s .entry)) (now (addresses .entry)) slot value ⌝ }
 {
-    let what = kind(s, addresses, table, rise, slot);
+    let place = layers::top_place(s, slot);
+    let what = kind(s, addresses, table, rise, place, slot);
     match what {
         WriteKind::Overwrite(u) => {
             let c = Content {
                 used: u,
                 held: Held::Value(value),
             };
-            let room = set_if_room(s, slot, c);
+            let room = set_if_room(s, place, slot, c);
             answer(room, what)
         }
         WriteKind::New => {
@@ -264,7 +273,7 @@ fn apply(
                 used: layers::installed_number(s),
                 held: Held::Value(value),
             };
-            let room = set_if_room(s, slot, c);
+            let room = set_if_room(s, place, slot, c);
             answer(room, what)
         }
         WriteKind::Skip => Applied::Done(what),

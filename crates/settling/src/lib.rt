@@ -21,7 +21,7 @@ fn added_at(s: &[u8], list: &[u8], at: usize) -> usize
     if list[at + 52] == 0 {
         return 0;
     }
-    match top::top_place(s, entries::read_slot(list, at)) {
+    match layers::top_place(s, entries::read_slot(list, at)) {
         Found::At(_) => 0,
         Found::Absent(_) => 1,
     }
@@ -51,7 +51,7 @@ fn settle_at(s: &mut [u8], members: &[u8], at: usize)
     }
     let slot = entries::read_slot(members, at);
     let value = entries::read_u256(members, at + 53);
-    let place = top::top_place(s, slot);
+    let place = layers::top_place(s, slot);
     top::settle_top(s, place, slot, value);
 }
 

@@ -4,7 +4,6 @@ use mathlib.Core.Path.{_≡_, refl, sym, ap, ap₂, _∙_}
 use mathlib.Core.List.{List, _∷_, _++_, append-nil}
 use native.Mathlib.Omega.{arith}
 use lib.ListN.{length, take, drop, length-drop, drop-of-length-le}
-use lib.Seq.{take-all}
 use borrow.Rule.Slice.PartMut.{putMid}
 use Rattle.layout.specs.Layout.{record-size, records-count-offset, records-offset}
 use Rattle.model.specs.declared.delta_snapshot.Slot.{Slot}
@@ -23,7 +22,7 @@ use Rattle.records.specs.declared.Found.{Found}
 use Rattle.records.specs.declared.Found.the-variants.{At, Absent}
 use Rattle.records.specs.Records.{place-in, count-after, Ready, Holds}
 use Rattle.records.proofs.Places.{length-insert}
-use Rattle.layers.proofs.Search.{lent}
+use Rattle.layers.proofs.Search.{lent, lent-rest}
 use Rattle.top.specs.Top.{topped, Placed}
 use Rattle.top.proofs.Changed.{new-top, top-exact}
 
@@ -53,17 +52,11 @@ module _ (b : List ℕ) (h : Installed b) (x n : ℕ) (p : x ≡ record-count (g
   abbrev g : Generation
   g = generation-of b
 
-  lent-rest : lent x b ≡ drop (records-offset + record-size * x) b
-  lent-rest = take-all (length b - (records-offset + record-size * x)) (drop (records-offset + record-size * x) b) (omega (arith, length-drop (records-offset + record-size * x) b))
-
   lent-drop : lent x b ≡ drop (records-offset + record-size * record-count (g .base)) b
-  lent-drop = lent-rest ∙ ap (λ (k : ℕ). drop (records-offset + record-size * k) b) p
+  lent-drop = lent-rest x b ∙ ap (λ (k : ℕ). drop (records-offset + record-size * k) b) p
 
   lent-reads : records-of n (lent x b) ≡ g .top
   lent-reads = ap₂ records-of q lent-drop ∙ generation-in b h .top .reads
-
-  pub top-finds : (s : Slot) (f : Found) → f ≡ place-in s (records-of n (lent x b)) → f ≡ place-in s (g .top)
-  top-finds s f e = e ∙ ap (place-in s) lent-reads
 
   -- The records are as many as the header says, and there is room for them.
   pub top-fits : records-offset + record-size * (x + n) ≤ length b
@@ -81,7 +74,7 @@ module _ (b : List ℕ) (h : Installed b) (x n : ℕ) (p : x ≡ record-count (g
         let more : count-after place n + x ≡ count-after place (length (g .top) + record-count (g .base)) = count-more place n x ∙ ap₂ (λ (i j : ℕ). count-after place (i + j)) q p in
         record {
           place-is = k .place-is ∙ ap (place-in s) (sym lent-reads);
-          room = omega (arith, ap length lent-rest, length-drop (records-offset + record-size * x) b);
+          room = omega (arith, ap length (lent-rest x b), length-drop (records-offset + record-size * x) b);
           exact = lent-exact;
           rises = ap rising lent-reads ∙ generation-in b h .top .rises;
         }

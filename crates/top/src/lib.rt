@@ -1,4 +1,4 @@
-// The top's records: the place of a slot, room for a record, and a record set.
+// The top's records: room for a record, and a record set.
 use model::delta_snapshot::Content;
 use model::delta_snapshot::Held;
 use model::delta_snapshot::Slot;
@@ -10,18 +10,8 @@ ghost use Rattle.model.specs.Layers.{record-count, insert, settle};
 ghost use Rattle.model.specs.Store.{chain, touched-top};
 ghost use Rattle.image.specs.Image.{overlay};
 ghost use Rattle.image.specs.Lent.{store-of, generation-of, Installed};
-ghost use Rattle.records.specs.Records.{place-in, count-after};
+ghost use Rattle.records.specs.Records.{count-after};
 ghost use Rattle.top.specs.Top.{topped, Placed};
-
-// The place of a slot among the top's records.
-pub fn top_place(s: &[u8], slot: Slot) -> Found
-    requires { ⌜ Installed (now s) ⌝ }
-    ensures { λ r. ⌜ r ≡ place-in slot (generation-of (now (s .entry)) .top) ⌝ }
-{
-    let n = layers::top_count(s);
-    let at = layout::RECORDS_OFFSET + layout::RECORD_SIZE * layers::top_start(s);
-    records::find(&s[at..], n, slot)
-}
 
 // Whether there is room for the record at a place.
 pub fn has_room(s: &[u8], place: Found) -> bool

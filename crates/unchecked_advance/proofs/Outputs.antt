@@ -1,9 +1,8 @@
 -- The output of an advance, half way: the slots that are still to be put, at their place. Assumes nothing.
 use Prim.Native.Nat.{ℕ, zero, suc, _+_, _*_, _/_, _≤_, _<_}
-use mathlib.Core.Path.{_≡_, refl, sym, ap, ap₂, subst, _∙_}
+use mathlib.Core.Path.{_≡_, sym, ap, ap₂, subst, _∙_}
 use mathlib.Core.Bool.{Bool, true, false, cond}
 use mathlib.Core.List.{List, [], _∷_, _++_, map, append-assoc, append-nil}
-use mathlib.Core.Option.{Option, some, none}
 use native.Mathlib.Numerals.{add-one}
 use native.Mathlib.Omega.{arith}
 use lib.ListN.{length, take, drop, length-append, length-drop, take-append-drop}
@@ -11,25 +10,26 @@ use lib.Seq.{take-add, drop-drop, take-at, drop-at, length-take-le}
 use Rattle.model.specs.declared.delta_snapshot.Slot.{Slot}
 use Rattle.model.specs.Numbers.{be, Bytes}
 use Rattle.model.specs.Layers.{Layer, find}
-use Rattle.model.specs.declared.delta_snapshot.Content.{Content}
-use Rattle.model.specs.Contents.{is-some, last-use-of}
+use Rattle.model.specs.Contents.{is-some}
 use Rattle.model.specs.Entries.{number-at, slot-of, write-of, chunks, writes-of, slot-bytes, slots-bytes, with-slots}
 use Rattle.model.proofs.NumberLaws.{be-num}
 use Rattle.model.proofs.EntryLaws.{bytes-drop, bytes-take, SlotFits, slot-of-fits, length-slot, Each, each-none, each-more}
 use Rattle.model.proofs.SlotLaws.{split}
 use Rattle.words.specs.Parts.{part, placed}
-use Rattle.layers.specs.declared.Use.{Use}
-use Rattle.layers.specs.Answers.{use-option}
+use Rattle.image.specs.WellFormed.{rising}
+use Rattle.records.specs.declared.Found.{Found}
+use Rattle.records.specs.declared.Found.the-variants.{At, Absent}
+use Rattle.records.specs.Records.{place-in}
+use Rattle.records.proofs.Places.{found-content, absent-none}
 use Rattle.seed.proofs.Entries.{write-at, writes-end}
 use Rattle.unchecked_advance.specs.Outputs.{PutOne, applied-in}
 
--- By the answer of the search.
-used-found : (o : Option Content) → is-some (last-use-of o) ≡ is-some o
-used-found none = refl
-used-found (some c) = refl
+-- By the place that the search found.
+pub found-at : (l : Layer) (t : Slot) (f : Found) (i : ℕ) → f ≡ place-in t l → f ≡ At i → true ≡ is-some (find t l)
+found-at l t f i p q = sym (ap is-some (found-content l t i (sym p ∙ q)))
 
-pub found-by : (e x : Use) (o : Option Content) → use-option e ≡ last-use-of o → e ≡ x → is-some (use-option x) ≡ is-some o
-found-by e x o p q = ap (λ (y : Use). is-some (use-option y)) (sym q) ∙ ap is-some p ∙ used-found o
+pub found-none : (l : Layer) (t : Slot) (f : Found) (i : ℕ) → rising l ≡ true → f ≡ place-in t l → f ≡ Absent i → false ≡ is-some (find t l)
+found-none l t f i r p q = sym (ap is-some (absent-none l t i r (sym p ∙ q)))
 
 -- A slot's bytes ----------------------------------------------------------------------------------------
 

@@ -1,6 +1,5 @@
 // An advance of a store known to be right.
 use counts::Counts;
-use layers::Use;
 use model::bal_prefetch::BalSkip;
 use model::delta_snapshot::CompactionReport;
 use model::delta_snapshot::Slot;
@@ -8,6 +7,7 @@ use model::read_hub::CarryOutcome;
 use model::read_hub::Lineage;
 use model::storage_memo::B256;
 use model::storage_memo::ReadAnchor;
+use records::Found;
 use replies::AdvanceReply;
 use replies::DeltaReport;
 use replies::WriteCounts;
@@ -58,9 +58,9 @@ fn in_top(s: &[u8], slot: Slot) -> bool
     requires { ⌜ Installed (now s) ⌝ }
     ensures { λ r. ⌜ r ≡ is-some (find slot (generation-of (now (s .entry)) .top)) ⌝ }
 {
-    match layers::top_use(s, slot) {
-        Use::None => false,
-        Use::At(_) => true,
+    match layers::top_place(s, slot) {
+        Found::At(_) => true,
+        Found::Absent(_) => false,
     }
 }
 

@@ -64,10 +64,10 @@ pub fn get(s: &mut [u8], anchor: ReadAnchor, slot: Slot) -> LookReply
     if n != 0 {
         return LookReply::Refused(n);
     }
-    let Held::Value(v) = layers::resolved(s, slot) else {
+    let place = layers::top_place(s, slot);
+    let Held::Value(v) = layers::resolved_at(s, place, slot) else {
         return LookReply::Nothing;
     };
-    let place = top::top_place(s, slot);
     if !top::has_room(s, place) {
         return LookReply::Refused(23);
     }
@@ -84,7 +84,7 @@ pub fn put(s: &mut [u8], anchor: ReadAnchor, slot: Slot, value: U256) -> PutRepl
     if n != 0 {
         return PutReply::Refused(n);
     }
-    let place = top::top_place(s, slot);
+    let place = layers::top_place(s, slot);
     if !top::has_room(s, place) {
         return PutReply::Refused(23);
     }

@@ -24,10 +24,11 @@ use Rattle.image.specs.WellFormed.{all-waiters}
 use Rattle.image.specs.Image.{bytes-of, words-of, hash-words, totals-words, all-record-words, all-pending-words, flat-records, layer-ends, padded, config-words, image-words, image, read-totals, overlay}
 use Rattle.image.specs.Area.{pending-of, with-pending}
 use Rattle.image.specs.Lent.{store-of, generation-of, Installed}
-use Rattle.model.proofs.WordLaws.{Fit, fit-nil, fit-cons}
+use Rattle.model.proofs.WordLaws.{Fit}
 use Rattle.image.proofs.Words.{length-bytes-of, length-padded, length-words-of, words-of-bytes}
 use Rattle.image.proofs.Entries.{length-records, length-flat, length-ends, length-pending}
 use Rattle.image.proofs.Areas.{words-part, GenerationBytes}
+use Rattle.image.proofs.Extent.{fit-totals}
 use Rattle.image.proofs.Lent.{store-in, generation-in}
 use Rattle.image.proofs.ReadBack.{decode-some, length-image}
 use Rattle.records.proofs.Written.{bytes-append}
@@ -200,18 +201,8 @@ module _ (cfg : Config) (g : Generation) (k : Sized cfg g) where
       let q : w ≡ t = sym (take-all totals-width w j) ∙ words-part totals-index totals-width header-width s (omega arith) ∙ ap (words-of totals-width) d ∙ words-of-bytes (bytes-of e ++ z) f in
       ap read-totals q
 
-pub fit-totals : (t : ReadTotals) → Small t → Fit (totals-words t)
-fit-totals t f =
-    let accepted : t .accepted < 2 ^ 64 = omega arith in
-    let served : t .served < 2 ^ 64 = omega arith in
-    let waiting : t .waiting < 2 ^ 64 = omega arith in
-    let valued : t .valued < 2 ^ 64 = omega arith in
-    let refused : t .refused < 2 ^ 64 = omega arith in
-    let rounds : t .rounds < 2 ^ 64 = omega arith in
-    let members : t .members < 2 ^ 64 = omega arith in
-    let errors : t .errors < 2 ^ 64 = omega arith in
-    let coalesced : t .coalesced < 2 ^ 64 = omega arith in
-    fit-cons accepted (fit-cons served (fit-cons waiting (fit-cons valued (fit-cons refused (fit-cons rounds (fit-cons members (fit-cons errors (fit-cons coalesced fit-nil))))))))
+fit-small : (t : ReadTotals) → Small t → Fit (totals-words t)
+fit-small t f = fit-totals t (omega arith) (omega arith) (omega arith) (omega arith) (omega arith) (omega arith) (omega arith) (omega arith) (omega arith)
 
 -- Fewer awaiting slots are left.
 length-less-one : (t : Slot) (q : List Pending) → length (remove-pending t q) ≤ length q
@@ -298,7 +289,7 @@ module _ (b : List ℕ) (h : Installed b) where
     pub totals-read : (r : ReadTotals) → Small r → totals-of (overlay (reading cfg gen t q r) b) ≡ r
     totals-read r f =
         let k : Sized cfg (with-reads gen t q r) = sized-with t q r c d in
-        ap totals-of (laid cfg (with-reads gen t q r) k b) ∙ totals-in cfg (with-reads gen t q r) k rest (fit-totals r f)
+        ap totals-of (laid cfg (with-reads gen t q r) k b) ∙ totals-in cfg (with-reads gen t q r) k rest (fit-small r f)
 
     pub totals-set : (r r' : ReadTotals) → with-totals r' (overlay (reading cfg gen t q r) b) ≡ overlay (reading cfg gen t q r') b
     totals-set r r' =

@@ -3,6 +3,7 @@ use model::delta_snapshot::Held;
 use model::delta_snapshot::Slot;
 use model::storage_memo::ReadAnchor;
 use model::storage_memo::U256;
+use records::Found;
 use replies::AnswerReply;
 use replies::ReadReply;
 use replies::TakeReply;
@@ -21,6 +22,7 @@ ghost use Rattle.model.specs.Store.{on-store, at-anchor, on-slot, resolved};
 ghost use Rattle.model.specs.Entries.{slots-of, members-of};
 ghost use Rattle.image.specs.Image.{decode, overlay, bytes-step};
 ghost use Rattle.image.specs.Lent.{store-of, generation-of, IsStore, Installed as HasGeneration};
+ghost use Rattle.records.specs.Records.{place-in};
 ghost use Rattle.awaiting.specs.Awaiting.{Lists, entry-slots};
 ghost use Rattle.replies.specs.Replies.{read-reply, answer-reply, alone, with-output, Stepped, Took};
 ghost use Rattle.unchecked_reads.specs.Inner.{awaited, Open, answer-refusal};
@@ -142,12 +144,11 @@ pub fn take(s: &mut [u8], anchor: ReadAnchor, out: &mut [u8]) -> TakeReply
     TakeReply::Listed(take_queued(s, out) as u64)
 }
 
-// A read of a served slot: its own use is set, and the read is counted.
-fn serve(s: &mut [u8], slot: Slot, v: U256) -> ReadReply
-    requires { ⌜ Open (now s) × (resolved (store-of (now s) .config .retention) (generation-of (now s)) slot ≡ some v) ⌝ }
+// A read of a served slot, whose record in the top stands or goes at `place`: its own use is set, and the read is counted.
+fn serve(s: &mut [u8], place: Found, slot: Slot, v: U256) -> ReadReply
+    requires { ⌜ Open (now s) × (resolved (store-of (now s) .config .retention) (generation-of (now s)) slot ≡ some v) × (place ≡ place-in slot (generation-of (now s) .top)) ⌝ }
     ensures { λ r. ⌜ Stepped (read-reply r) (now (s .exit)) (bytes-step (now (s .entry)) (alone (on-store (at-anchor (generation-of (now (s .entry)) .anchor) (on-slot (calls.read slot)))))) ⌝ }
 {
-    let place = top::top_place(s, slot);
     if !top::has_room(s, place) {
         return ReadReply::Refused(23);
     }
@@ -183,10 +184,11 @@ pub fn read(s: &mut [u8], anchor: ReadAnchor, slot: Slot) -> ReadReply
     if 4294967295 <= words::read_u64(s, layout::ACCEPTED_OFFSET) {
         return ReadReply::Refused(25);
     }
-    let Held::Value(v) = layers::resolved(s, slot) else {
+    let place = layers::top_place(s, slot);
+    let Held::Value(v) = layers::resolved_at(s, place, slot) else {
         return wait(s, slot);
     };
-    serve(s, slot, v)
+    serve(s, place, slot, v)
 }
 
 // The refusal of an answer to the slots of a lent list at an anchor: 8, 21, 22 or, if there is none, 0.

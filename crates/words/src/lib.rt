@@ -35,7 +35,7 @@ pub fn read_u64(s: &[u8], at: usize) -> u64
 }
 
 // The eight bytes of x at `at`.
-pub fn write_u64(s: &mut [u8], at: usize, x: u64)
+fn write_bytes(s: &mut [u8], at: usize, x: u64)
     requires { ⌜ at + 8 ≤ length (now s) ⌝ }
     ensures { λ _. ⌜ now (s .exit) ≡ placed at (be 8 x) (now (s .entry)) ⌝ }
 {
@@ -47,6 +47,18 @@ pub fn write_u64(s: &mut [u8], at: usize, x: u64)
     s[at + 5] = (x / 0x1_0000 % 256) as u8;
     s[at + 6] = (x / 0x100 % 256) as u8;
     s[at + 7] = (x % 256) as u8;
+}
+
+// The same. The two cases part the stores of one word from those of the next, so that each word is compiled to one store.
+pub fn write_u64(s: &mut [u8], at: usize, x: u64)
+    requires { ⌜ at + 8 ≤ length (now s) ⌝ }
+    ensures { λ _. ⌜ now (s .exit) ≡ placed at (be 8 x) (now (s .entry)) ⌝ }
+{
+    if x == 0 {
+        write_bytes(s, at, 0);
+    } else {
+        write_bytes(s, at, x);
+    }
 }
 
 // Moves n bytes from `at` up by `by` places, the last byte first.

@@ -1,22 +1,17 @@
 -- `header::same_u256` meets its contract: the first word that differs decides. Assumes nothing.
 use borrow.Author.Needs.{needs}
 use mathlib.Core.Path.{_≡_, _∙_}
-use mathlib.Core.List.{List, [], _∷_}
-use Prim.Native.Nat.{ℕ, _+_}
+use mathlib.Core.List.{List}
+use Prim.Native.Nat.{ℕ}
 use lib.ListN.{drop}
 use denote.Ref.{now}
 use Rattle.model.specs.declared.storage_memo.U256.{U256}
-use Rattle.model.specs.Numbers.{num}
 use Rattle.model.specs.Slots.{u256-words, words-eqb}
-use Rattle.words.specs.Parts.{part}
-use Rattle.header.proofs.Anchors.{words-differ, words-agree, words-last}
+use Rattle.header.proofs.Anchors.{words-from, words-differ, words-agree, words-last}
 use Rattle.header.proofs.same_u256.Statement.{statement}
 use Rattle.header.proofs.same_u256.Tie as tie
 
--- The words from place `at` on, and that those after the first k decide.
-abbrev words-from : ℕ → List ℕ → List ℕ
-words-from at s = num (part at 8 s) ∷ num (part (at + 8) 8 s) ∷ num (part (at + 16) 8 s) ∷ num (part (at + 24) 8 s) ∷ []
-
+-- The words after the first k decide.
 abbrev Decides : ℕ → ℕ → List ℕ → U256 → Type 0
 Decides k at s x = words-eqb (drop k (words-from at s)) (drop k (u256-words x)) ≡ words-eqb (words-from at s) (u256-words x)
 

@@ -1,13 +1,13 @@
 -- `records::set` meets its contract. Assumes nothing.
 use borrow.Author.Needs.{needs}
-use mathlib.Core.Path.{_≡_, _∙_}
+use mathlib.Core.Path.{_≡_}
 use Prim.Native.Nat.{_*_, _≤_, _<_}
 use native.Mathlib.Omega.{arith}
 use lib.ListN.{length}
 use denote.Ref.{now}
 use Rattle.layout.specs.Layout.{record-size}
 use Rattle.records.specs.declared.Found.the-variants.{At, Absent}
-use Rattle.records.proofs.Settled.{at-lt, at-room, absent-at-most, absent-room, count-at, count-absent, set-absent, set-found}
+use Rattle.records.proofs.Settled.{at-lt, at-room, absent-at-most, absent-room, held-at, held-absent}
 use Rattle.records.proofs.set.Statement.{statement}
 use Rattle.records.proofs.set.Tie as tie
 
@@ -58,7 +58,7 @@ returns c =
     let a = st .args in
     let i = c .before .before .before .before .before .place .given .0 .0 in
     let e : a .place ≡ At i = search needs in
-    record { count-is = count-at (a .place) (a .slot) (a .n) (now (a .s)) (st .pre) i (a .c) e; bytes-are = c .before .before .write-content .ensures ∙ set-found (a .place) (a .slot) (a .n) (now (a .s)) (st .pre) i (a .c) e }
+    held-at (a .place) (a .slot) (a .n) (now (a .s)) (st .pre) i (a .c) e (c .before .before .write-content .ensures)
 
 same-length-2 : tie.Need-same-length-2
 same-length-2 c = search needs
@@ -69,7 +69,7 @@ returns-2 c =
     let a = st .args in
     let i = c .before .before .before .before .before .place2 .given .0 .0 in
     let e : a .place ≡ Absent i = search needs in
-    record { count-is = count-absent (a .place) (a .slot) (a .n) (now (a .s)) (st .pre) i (a .c) e; bytes-are = c .before .before .insert-at .ensures ∙ set-absent (a .place) (a .slot) (a .n) (now (a .s)) (st .pre) i (a .c) e }
+    held-absent (a .place) (a .slot) (a .n) (now (a .s)) (st .pre) i (a .c) e (c .before .before .insert-at .ensures)
 
 pub set-spec : {M : Type 1} → statement M
 set-spec =

@@ -1,45 +1,52 @@
 -- `records::write_content` meets its contract. Assumes nothing.
 use borrow.Author.Needs.{needs}
+use mathlib.Core.Path.{_≡_}
 use denote.Ref.{now}
+use Rattle.model.specs.declared.delta_snapshot.Held.the-variants.{Nothing, Value as HeldValue}
 use Rattle.records.proofs.Written.{content-put}
 use Rattle.records.proofs.write_content.Statement.{statement}
 use Rattle.records.proofs.write_content.Tie as tie
 
-write-u64-requires : tie.Need-write-u64-requires
-write-u64-requires c κs = search needs
+enum-told : tie.Need-enum-told
+enum-told c = search needs
 
-add-write-held : tie.Need-add-write-held
-add-write-held c = search needs
+write-words-requires : tie.Need-write-words-requires
+write-words-requires c κs = search needs
 
-write-held-requires : tie.Need-write-held-requires
-write-held-requires c κs = search needs
+enum-known-held : tie.Need-enum-known-held
+enum-known-held c = search needs
 
-add-write-u64 : tie.Need-add-write-u64
-add-write-u64 c = search needs
-
-write-u64-requires-2 : tie.Need-write-u64-requires-2
-write-u64-requires-2 c κs = search needs
+write-words-requires-2 : tie.Need-write-words-requires-2
+write-words-requires-2 c κs = search needs
 
 same-length : tie.Need-same-length
 same-length c = search needs
 
 returns : tie.Need-returns
 returns c =
-    let w3 = c .before .before in
-    let w2 = w3 .before .before .before .before in
-    let w1 = w2 .before .before .before .before in
-    let st = w1 .before .before .before in
-    let a = st .args in
-    content-put (a .at) (a .c) (now (a .s)) (st .pre) (w1 .write-u64 .ensures) (w2 .write-held .ensures) (w3 .write-u642 .ensures)
+    let a = c .before .before .before .before .before .before .before .args in
+    let e : a .c .held ≡ Nothing = search needs in
+    content-put (a .at) (a .c) Nothing (now (a .s)) e (c .before .before .write-words .ensures)
+
+same-length-2 : tie.Need-same-length-2
+same-length-2 c = search needs
+
+returns-2 : tie.Need-returns-2
+returns-2 c =
+    let a = c .before .before .before .before .before .before .before .before .args in
+    let v = c .before .before .before .before .before .held .given .0 .0 in
+    let e : a .c .held ≡ HeldValue v = search needs in
+    content-put (a .at) (a .c) (HeldValue v) (now (a .s)) e (c .before .before .write-words2 .ensures)
 
 pub write-content-spec : {M : Type 1} → statement M
 write-content-spec =
     tie.close
     (tie.spec
-    write-u64-requires
-    add-write-held
-    write-held-requires
-    add-write-u64
-    write-u64-requires-2
+    enum-told
+    write-words-requires
+    enum-known-held
+    write-words-requires-2
     same-length
-    returns)
+    returns
+    same-length-2
+    returns-2)

@@ -1,74 +1,43 @@
 -- `rules::cross_rules` meets its contract.
 use borrow.Author.Needs.{needs}
 use mathlib.Core.Path.{_≡_, sym, subst}
-use mathlib.Core.List.{List}
-use Prim.Native.Nat.{ℕ}
-use native.Mathlib.Omega.{arith}
-use lib.ListN.{length}
 use denote.Ref.{now}
-use Rattle.order.specs.Index.{numbers, Ordered, up-from}
-use Rattle.order.proofs.PartLaws.{front-part, front-fits}
+use Rattle.image.specs.Area.{records-of}
+use Rattle.rules.specs.declared.Verdict.{Verdict}
+use Rattle.rules.specs.declared.Verdict.the-variants.{Hold, Broken}
+use Rattle.rules.specs.Rules.{Says, cross-rules}
 use Rattle.rules.proofs.cross_rules.Statement.{statement}
 use Rattle.rules.proofs.cross_rules.Tie as tie
 
-sub-order : tie.Need-sub-order
-sub-order c = search needs
+by-table-requires : tie.Need-by-table-requires
+by-table-requires c κs = search needs
 
-part-a-start : tie.Need-part-a-start
-part-a-start c = search needs
+enum-told : tie.Need-enum-told
+enum-told c = search needs
 
-part-a-end : tie.Need-part-a-end
-part-a-end c = search needs
+enum-told-2 : tie.Need-enum-told-2
+enum-told-2 c = search needs
 
-sub-order-2 : tie.Need-sub-order-2
-sub-order-2 c = search needs
+enum-told-3 : tie.Need-enum-told-3
+enum-told-3 c = search needs
 
-part-b-start : tie.Need-part-b-start
-part-b-start c = search needs
+by-sort-requires : tie.Need-by-sort-requires
+by-sort-requires c κs = search needs
 
-part-b-end : tie.Need-part-b-end
-part-b-end c = search needs
-
-order-requires : tie.Need-order-requires
-order-requires c κs = search needs
-
-sub-rules : tie.Need-sub-rules
-sub-rules c = search needs
-
-part-rules-start : tie.Need-part-rules-start
-part-rules-start c = search needs
-
-part-rules-end : tie.Need-part-rules-end
-part-rules-end c =
-    let o = c .before .before .before in
-    let n = c .before .before .before .before .before .before .before .args .n in
-    let la : length (o .order .last .1 .1 .1 .0) ≡ n = omega arith in
-    front-fits n (o .order .last .1 .1 .1 .0) _ la
-
-rules-requires : tie.Need-rules-requires
-rules-requires c κs =
-    let st = c .before .before .before .before .before .before .before .before in
-    let n = st .args .n in
-    let o = c .before .before .before .before in
-    let la : length (o .order .last .1 .1 .1 .0) ≡ n = omega arith in
-    (search needs, subst (λ (l : List ℕ). Ordered (numbers n (now (st .args .s))) (up-from 0 n) l) (sym (front-part n (o .order .last .1 .1 .1 .0) _ la)) (o .order .ensures))
+-- what the table says, of a verdict that is known
+said : (v : tie.After-by-table) (x : Verdict) → v .by-table .result ≡ x → let a = v .before .before .args in Says x (cross-rules (a .retention) (a .number) (a .top) (records-of (a .n) (now (a .s))))
+said v x e = let a = v .before .before .args in subst (λ (y : Verdict). Says y (cross-rules (a .retention) (a .number) (a .top) (records-of (a .n) (now (a .s))))) e (v .by-table .ensures)
 
 returns : tie.Need-returns
-returns c = search needs
+returns c = sym (said (c .before .before) Hold (c .enum-told .given .1))
+
+returns-2 : tie.Need-returns-2
+returns-2 c = sym (said (c .before .before) Broken (c .enum-told2 .given .1))
+
+returns-3 : tie.Need-returns-3
+returns-3 c = search needs
 
 pub cross-rules-spec : {M : Type 1} → statement M
 cross-rules-spec =
     tie.close
-    (tie.spec
-    sub-order
-    part-a-start
-    part-a-end
-    sub-order-2
-    part-b-start
-    part-b-end
-    order-requires
-    sub-rules
-    part-rules-start
-    part-rules-end
-    rules-requires
-    returns)
+    (tie.spec by-table-requires enum-told enum-told-2 enum-told-3 by-sort-requires returns returns-2 returns-3)

@@ -6,6 +6,9 @@ use borrow.Author.Needs.{needs}
 use Rattle.seed.proofs.apply.Statement.{statement}
 use Rattle.seed.proofs.apply.Tie as tie
 
+top-place-requires : tie.Need-top-place-requires
+top-place-requires c κs = search needs
+
 kind-requires : tie.Need-kind-requires
 kind-requires c κs = search needs
 
@@ -41,7 +44,7 @@ returns c =
     let t = c .before .before .before in
     let k = t .before .before .before in
     let d = k .before .before in
-    let a = d .before .before .before .before .before .args in
+    let a = d .before .before .before .before .before .before .before .args in
     wrote-over (now (a .s)) (now (a .addresses)) (a .slot) (a .value) _ (d .kind .ensures) _ _ _ _ (k .what .given .1) (c .answer .ensures) (t .set-if-room .ensures)
 
 same-length-2 : tie.Need-same-length-2
@@ -53,7 +56,7 @@ returns-2 c =
     let n = t .before .before in
     let m = n .before .before in
     let d = m .before .before in
-    let a = d .before .before .before .before .before .args in
+    let a = d .before .before .before .before .before .before .before .args in
     wrote-new (now (a .s)) (now (a .addresses)) (a .slot) (a .value) _ (d .kind .ensures) _ _ _ _ (m .enum-told .given .1) (n .installed-number .ensures) (c .answer2 .ensures) (t .set-if-room2 .ensures)
 
 same-length-3 : tie.Need-same-length-3
@@ -62,7 +65,7 @@ same-length-3 c = search needs
 returns-3 : tie.Need-returns-3
 returns-3 c =
     let d = c .before .before in
-    let k = d .before .before .before .before in
+    let k = d .before .before .before .before .before .before in
     let a = k .before .args in
     wrote-none (now (a .s)) (now (a .addresses)) (a .slot) (a .value) _ (d .kind .ensures) (known-bytes (now (a .s)) (k .slice-known .given)) (k .before .pre .0) (c .enum-told2 .given .1)
 
@@ -70,6 +73,7 @@ pub apply-spec : {M : Type 1} → statement M
 apply-spec =
     tie.close
     (tie.spec
+    top-place-requires
     kind-requires
     enum-known-what
     set-if-room-requires

@@ -1,11 +1,21 @@
 -- `seed::kind` meets its contract. Assumes nothing.
+use mathlib.Core.Path.{_≡_}
+use denote.Ref.{now}
+use Rattle.model.specs.Contents.{valued-use}
+use Rattle.model.specs.Layers.{find}
+use Rattle.image.specs.Lent.{generation-of}
+use Rattle.layers.specs.Answers.{use-option}
 use Rattle.seed.proofs.Doing.{kind-unwritten, kind-written}
 use borrow.Author.Needs.{needs}
 use Rattle.seed.proofs.kind.Statement.{statement}
 use Rattle.seed.proofs.kind.Tie as tie
 
+-- What the top says of the slot.
+said : (c : tie.After-top-valued-use) → let a = c .before .before .before .before .args in use-option (c .top-valued-use .result) ≡ valued-use (find (a .slot) (generation-of (now (a .s)) .top))
+said c = let st = c .before .before .before .before in c .top-valued-use .ensures (st .args .slot) (st .pre .2)
+
 top-valued-use-requires : tie.Need-top-valued-use-requires
-top-valued-use-requires c κs = search needs
+top-valued-use-requires c κs = let st = c .before .before .before in (st .pre .0, record { slot = st .args .slot; place-is = st .pre .2 })
 
 enum-told : tie.Need-enum-told
 enum-told c = search needs
@@ -17,10 +27,10 @@ enum-known-u : tie.Need-enum-known-u
 enum-known-u c = search needs
 
 returns : tie.Need-returns
-returns c = kind-unwritten _ _ _ _ _ _ (c .before .before .before .top-valued-use .ensures) _ (c .before .enum-told .given .1) (c .base-kind .ensures)
+returns c = kind-unwritten _ _ _ _ _ _ (said (c .before .before .before)) _ (c .before .enum-told .given .1) (c .base-kind .ensures)
 
 returns-2 : tie.Need-returns-2
-returns-2 c = kind-written _ _ _ _ _ _ (c .before .before .before .top-valued-use .ensures) _ (c .before .u .given .1)
+returns-2 c = kind-written _ _ _ _ _ _ (said (c .before .before .before)) _ (c .before .u .given .1)
 
 pub kind-spec : {M : Type 1} → statement M
 kind-spec =

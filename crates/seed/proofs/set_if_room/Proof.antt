@@ -7,9 +7,6 @@ use borrow.Author.Needs.{needs}
 use Rattle.seed.proofs.set_if_room.Statement.{statement}
 use Rattle.seed.proofs.set_if_room.Tie as tie
 
-top-place-requires : tie.Need-top-place-requires
-top-place-requires c κs = search needs
-
 has-room-requires : tie.Need-has-room-requires
 has-room-requires c κs = search needs
 
@@ -18,17 +15,17 @@ same-length c = search needs
 
 returns : tie.Need-returns
 returns c =
-    let p = c .before .before .before in
-    let a = p .before .before .before .args in
-    settled-not (now (a .s)) (a .slot) (a .c) _ _ (p .top-place .ensures) (c .before .has-room .ensures) (not-true _ (c .if1 .taken))
+    let st = c .before .before .before .before in
+    let a = st .args in
+    settled-not (now (a .s)) (a .slot) (a .c) _ _ (st .pre .1) (c .before .has-room .ensures) (not-true _ (c .if1 .taken))
 
 set-top-requires : tie.Need-set-top-requires
 set-top-requires c κs =
     let e = c .before in
-    let p = e .before .before .before in
+    let st = e .before .before .before .before in
     record {
-      installed = p .before .before .before .pre;
-      place-is = p .top-place .ensures;
+      installed = st .pre .0;
+      place-is = st .pre .1;
       room = room-yes _ _ _ (e .before .has-room .ensures) (not-false _ (e .if1 .left));
     }
 
@@ -39,15 +36,14 @@ returns-2 : tie.Need-returns-2
 returns-2 c =
     let t = c .before .before in
     let e = t .before .before in
-    let p = e .before .before .before in
-    let a = p .before .before .before .args in
-    settled-so (now (a .s)) (a .slot) (a .c) _ _ (p .top-place .ensures) (e .before .has-room .ensures) _ (not-false _ (e .if1 .left)) (t .set-top .ensures)
+    let st = e .before .before .before .before in
+    let a = st .args in
+    settled-so (now (a .s)) (a .slot) (a .c) _ _ (st .pre .1) (e .before .has-room .ensures) _ (not-false _ (e .if1 .left)) (t .set-top .ensures)
 
 pub set-if-room-spec : {M : Type 1} → statement M
 set-if-room-spec =
     tie.close
     (tie.spec
-    top-place-requires
     has-room-requires
     same-length
     returns

@@ -32,19 +32,19 @@ here c =
     past-guard _ _ (decoded-some _ (st .pre)) (sym (c .before .guard .ensures) ∙ c .if1 .left)
 
 -- The value that the search found.
-told : (c : tie.After-known-told) → let a = c .before .before .before .before .before .before .before .before .before .args in resolved (store-of (now (a .s)) .config .retention) (generation-of (now (a .s))) (a .slot) ≡ some (c .before .v .given .0 .0)
+told : (c : tie.After-known-told) → let a = c .before .before .before .before .before .before .before .before .before .before .before .args in resolved (store-of (now (a .s)) .config .retention) (generation-of (now (a .s))) (a .slot) ≡ some (c .before .v .given .0 .0)
 told c =
     let r = c .before .before .before in
-    let q : r .resolved .result ≡ HeldValue (c .before .v .given .0 .0) = search needs in
-    sym (r .resolved .ensures) ∙ ap held-option q
+    let q : r .resolved-at .result ≡ HeldValue (c .before .v .given .0 .0) = search needs in
+    sym (r .resolved-at .ensures) ∙ ap held-option q
 
 -- With room, the place is one where the record can be set.
-ready : (c : tie.Else2) → let a = c .before .before .before .before .before .before .before .before .before .before .before .before .before .before .args in Placed (c .before .before .before .top-place .result) (a .slot) (now (a .s))
+ready : (c : tie.Else2) → let a = c .before .before .before .before .before .before .before .before .before .before .before .before .before .before .args in Placed (c .before .before .before .before .before .before .before .before .top-place .result) (a .slot) (now (a .s))
 ready c =
     let h : Here _ _ = here (c .before .before .before .before .before .before .before .before .before .before) in
     record {
       installed = h .has;
-      place-is = c .before .before .before .top-place .ensures;
+      place-is = c .before .before .before .before .before .before .before .before .top-place .ensures;
       room = room-yes _ _ _ (c .before .has-room .ensures) (not-false _ (c .if2 .left));
     }
 
@@ -59,8 +59,11 @@ returns c =
     let st = c .before .before .before .before in
     by-guard _ _ _ (plain-get (st .args .slot)) (decoded-some _ (st .pre)) (c .before .guard .ensures) (c .if1 .taken)
 
-resolved-requires : tie.Need-resolved-requires
-resolved-requires c κs = here (c .before) .has
+top-place-requires : tie.Need-top-place-requires
+top-place-requires c κs = here (c .before) .has
+
+resolved-at-requires : tie.Need-resolved-at-requires
+resolved-at-requires c κs = (here (c .before .before .before) .has, c .before .top-place .ensures)
 
 enum-known-v : tie.Need-enum-known-v
 enum-known-v c = search needs
@@ -74,16 +77,13 @@ same-length-2 c = search needs
 returns-2 : tie.Need-returns-2
 returns-2 c =
     let r = c .before .before in
-    let e1 = r .before .before in
+    let e1 = r .before .before .before .before in
     let k = e1 .before .before .before in
     let a = k .before .args in
     let s = now (a .s) in
     let h : Here s (a .anchor) = here e1 in
     said-none s (store-of s) (generation-of s) (known-bytes s (k .slice-known .given)) (h .has .is-store) (h .has .installs) (a .anchor) (a .slot) (h .same)
-    (sym (r .resolved .ensures) ∙ ap held-option (c .enum-told .given .1))
-
-top-place-requires : tie.Need-top-place-requires
-top-place-requires c κs = here (c .before .before .before .before .before .before) .has
+    (sym (r .resolved-at .ensures) ∙ ap held-option (c .enum-told .given .1))
 
 has-room-requires : tie.Need-has-room-requires
 has-room-requires c κs = here (c .before .before .before .before .before .before .before .before) .has
@@ -93,15 +93,15 @@ same-length-3 c = search needs
 
 returns-3 : tie.Need-returns-3
 returns-3 c =
-    let kt = c .before .before .before .before .before in
-    let e1 = kt .before .before .before .before .before in
+    let kt = c .before .before .before in
+    let e1 = kt .before .before .before .before .before .before .before in
     let k = e1 .before .before .before in
     let a = k .before .args in
     let s = now (a .s) in
     let g = generation-of s in
     let h : Here s (a .anchor) = here e1 in
-    let e = count-set g (a .slot) (touch (g .anchor .number) (find (a .slot) (g .top))) _ (c .before .before .before .top-place .ensures) in
-    let f = c .before .before .before .top-place .result in
+    let e = count-set g (a .slot) (touch (g .anchor .number) (find (a .slot) (g .top))) _ (kt .before .before .before .before .before .top-place .ensures) in
+    let f = kt .before .before .before .before .before .top-place .result in
     let z : store-of s .config .capacity < count-after f (record-count (chain g)) = room-no (c .before .has-room .result) (count-after f (record-count (chain g))) (store-of s .config .capacity) (c .before .has-room .ensures) (not-true _ (c .if2 .taken)) in
     said-get-full s (store-of s) g (known-bytes s (k .slice-known .given)) (h .has .is-store) (h .has .installs) (a .anchor) (a .slot) (h .same) _ (told kt) (omega (arith, e, z))
 
@@ -115,8 +115,8 @@ returns-4 : tie.Need-returns-4
 returns-4 c =
     let t = c .before .before in
     let e2 = t .before .before in
-    let kt = e2 .before .before .before .before .before in
-    let e1 = kt .before .before .before .before .before in
+    let kt = e2 .before .before .before in
+    let e1 = kt .before .before .before .before .before .before .before in
     let k = e1 .before .before .before in
     let a = k .before .args in
     let s = now (a .s) in
@@ -134,12 +134,12 @@ get-spec =
     guard-requires
     same-length
     returns
-    resolved-requires
+    top-place-requires
+    resolved-at-requires
     enum-known-v
     enum-told
     same-length-2
     returns-2
-    top-place-requires
     has-room-requires
     same-length-3
     returns-3

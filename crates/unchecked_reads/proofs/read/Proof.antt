@@ -31,11 +31,11 @@ left-open c =
     record { installed = i; fewer = omega (arith, c .before .read-u64 .ensures, generation-in _ i .totals-word 0 (omega arith), c .if2 .left) }
 
 -- The value that the search found.
-told : (c : tie.After-known-told) → let a = c .before .before .before .before .before .before .before .before .before .before .before .before .args in resolved (store-of (now (a .s)) .config .retention) (generation-of (now (a .s))) (a .slot) ≡ some (c .before .v .given .0 .0)
+told : (c : tie.After-known-told) → let a = c .before .before .before .before .before .before .before .before .before .before .before .before .before .before .args in resolved (store-of (now (a .s)) .config .retention) (generation-of (now (a .s))) (a .slot) ≡ some (c .before .v .given .0 .0)
 told c =
     let r = c .before .before .before in
-    let q : r .resolved .result ≡ HeldValue (c .before .v .given .0 .0) = search needs in
-    sym (r .resolved .ensures) ∙ ap held-option q
+    let q : r .resolved-at .result ≡ HeldValue (c .before .v .given .0 .0) = search needs in
+    sym (r .resolved-at .ensures) ∙ ap held-option q
 
 guard-requires : tie.Need-guard-requires
 guard-requires c κs = decoded-some _ (c .before .before .pre)
@@ -63,8 +63,11 @@ returns-2 c =
     let z : 4294967295 ≤ generation-of (now (a .s)) .totals .accepted = omega (arith, c .before .read-u64 .ensures, generation-in _ i .totals-word 0 (omega arith), c .if2 .taken) in
     stepped (said-25 (now (a .s)) (a .anchor) (here e1) (a .slot) z)
 
-resolved-requires : tie.Need-resolved-requires
-resolved-requires c κs = here (c .before .before .before .before) .has
+top-place-requires : tie.Need-top-place-requires
+top-place-requires c κs = here (c .before .before .before .before) .has
+
+resolved-at-requires : tie.Need-resolved-at-requires
+resolved-at-requires c κs = (here (c .before .before .before .before .before .before) .has, c .before .top-place .ensures)
 
 enum-known-v : tie.Need-enum-known-v
 enum-known-v c = search needs
@@ -75,7 +78,7 @@ enum-told c = search needs
 wait-requires : tie.Need-wait-requires
 wait-requires c κs =
     let r = c .before .before .before in
-    (left-open (r .before .before), sym (r .resolved .ensures) ∙ ap held-option (c .before .enum-told .given .1))
+    (left-open (r .before .before .before .before), sym (r .resolved-at .ensures) ∙ ap held-option (c .before .enum-told .given .1))
 
 same-length-3 : tie.Need-same-length-3
 same-length-3 c = search needs
@@ -83,7 +86,7 @@ same-length-3 c = search needs
 returns-3 : tie.Need-returns-3
 returns-3 c =
     let t = c .before .before in
-    let e2 = t .before .before .before .before .before .before in
+    let e2 = t .before .before .before .before .before .before .before .before in
     let e1 = e2 .before .before .before in
     let a = e1 .before .before .before .before .args in
     at-its-anchor (now (a .s)) (a .anchor) (here e1) (on-slot (read (a .slot))) (t .wait .ensures)
@@ -91,7 +94,7 @@ returns-3 c =
 serve-requires : tie.Need-serve-requires
 serve-requires c κs =
     let kt = c .before in
-    (left-open (kt .before .before .before .before .before), told kt)
+    (left-open (kt .before .before .before .before .before .before .before), told kt, kt .before .before .before .before .before .top-place .ensures)
 
 same-length-4 : tie.Need-same-length-4
 same-length-4 c = search needs
@@ -99,7 +102,7 @@ same-length-4 c = search needs
 returns-4 : tie.Need-returns-4
 returns-4 c =
     let t = c .before .before in
-    let e2 = t .before .before .before .before .before .before .before in
+    let e2 = t .before .before .before .before .before .before .before .before .before in
     let e1 = e2 .before .before .before in
     let a = e1 .before .before .before .before .args in
     at-its-anchor (now (a .s)) (a .anchor) (here e1) (on-slot (read (a .slot))) (t .serve .ensures)
@@ -114,7 +117,8 @@ read-spec =
     read-u64-requires
     same-length-2
     returns-2
-    resolved-requires
+    top-place-requires
+    resolved-at-requires
     enum-known-v
     enum-told
     wait-requires

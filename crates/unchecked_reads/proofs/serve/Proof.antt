@@ -22,26 +22,23 @@ use Rattle.unchecked_reads.proofs.serve.Statement.{statement}
 use Rattle.unchecked_reads.proofs.serve.Tie as tie
 
 -- With room, the place is one where the record can be set.
-ready : (c : tie.Else1) → let a = c .before .before .before .before .before .before .args in Placed (c .before .before .before .top-place .result) (a .slot) (now (a .s))
+ready : (c : tie.Else1) → let a = c .before .before .before .before .args in Placed (a .place) (a .slot) (now (a .s))
 ready c =
     record {
-      installed = c .before .before .before .before .before .before .pre .0 .installed;
-      place-is = c .before .before .before .top-place .ensures;
+      installed = c .before .before .before .before .pre .0 .installed;
+      place-is = c .before .before .before .before .pre .2;
       room = room-yes _ _ _ (c .before .has-room .ensures) (not-false _ (c .if1 .left));
     }
 
 -- And then there are no more records than the capacity.
-within : (c : tie.Else1) → let a = c .before .before .before .before .before .before .args in
+within : (c : tie.Else1) → let a = c .before .before .before .before .args in
     record-count (touched-top (generation-of (now (a .s))) (a .slot) ∷ generation-of (now (a .s)) .base) ≤ store-of (now (a .s)) .config .capacity
 within c =
-    let a = c .before .before .before .before .before .before .args in
+    let a = c .before .before .before .before .args in
     let g = generation-of (now (a .s)) in
     let p = ready c in
     let e = count-set g (a .slot) (touch (g .anchor .number) (find (a .slot) (g .top))) _ (p .place-is) in
     omega (arith, e, p .room)
-
-top-place-requires : tie.Need-top-place-requires
-top-place-requires c κs = search needs
 
 has-room-requires : tie.Need-has-room-requires
 has-room-requires c κs = search needs
@@ -51,12 +48,12 @@ same-length c = search needs
 
 returns : tie.Need-returns
 returns c =
-    let st = c .before .before .before .before .before .before in
+    let st = c .before .before .before .before in
     let a = st .args in
     let s = now (a .s) in
     let g = generation-of s in
-    let f = c .before .before .before .top-place .result in
-    let e = count-set g (a .slot) (touch (g .anchor .number) (find (a .slot) (g .top))) _ (c .before .before .before .top-place .ensures) in
+    let f = a .place in
+    let e = count-set g (a .slot) (touch (g .anchor .number) (find (a .slot) (g .top))) _ (st .pre .2) in
     let z : store-of s .config .capacity < count-after f (record-count (chain g)) = room-no (c .before .has-room .result) (count-after f (record-count (chain g))) (store-of s .config .capacity) (c .before .has-room .ensures) (not-true _ (c .if1 .taken)) in
     stepped (said-full s (g .anchor) (here-own s (st .pre .0 .installed)) (a .slot) (st .pre .0 .fewer) (a .v) (st .pre .1) (omega (arith, e, z)))
 
@@ -67,7 +64,7 @@ record-read-requires : tie.Need-record-read-requires
 record-read-requires c κs =
     let t = c .before .before .before in
     let e1 = t .before .before in
-    let st = e1 .before .before .before .before .before .before in
+    let st = e1 .before .before .before .before in
     let s = now (st .args .s) in
     let g = generation-of s in
     let h = st .pre .0 .installed in (
@@ -83,7 +80,7 @@ returns-2 c =
     let r = c .before .before in
     let t = r .before .before .before .before in
     let e1 = t .before .before in
-    let st = e1 .before .before .before .before .before .before in
+    let st = e1 .before .before .before .before in
     let a = st .args in
     let s = now (a .s) in
     let g = generation-of s in
@@ -95,7 +92,6 @@ pub serve-spec : {M : Type 1} → statement M
 serve-spec =
     tie.close
     (tie.spec
-    top-place-requires
     has-room-requires
     same-length
     returns

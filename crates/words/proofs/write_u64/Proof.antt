@@ -1,122 +1,41 @@
 -- `words::write_u64` meets its contract. Assumes nothing.
 use borrow.Author.Needs.{needs}
-use native.Mathlib.Omega.{arith}
-use lib.ListN.{length-set}
-use lib.Seq.{sets-eq}
-use denote.Ref.{now}
-use native.Mathlib.Numerals.{towards-suc}
-use mathlib.Core.Path.{_≡_, ap, _∙_}
-use mathlib.Core.List.{List}
 use Prim.Native.Nat.{ℕ}
+use mathlib.Core.Path.{_≡_, sym, ap, _∙_}
+use denote.Ref.{now}
+use Rattle.model.specs.Numbers.{be}
 use Rattle.words.specs.Parts.{placed}
-use Rattle.words.proofs.Numbers.{be8}
-use Rattle.words.proofs.Places.{placed-be8}
 use Rattle.words.proofs.write_u64.Statement.{statement}
 use Rattle.words.proofs.write_u64.Tie as tie
 
-cast-s : tie.Need-cast-s
-cast-s c = search needs
+write-bytes-requires : tie.Need-write-bytes-requires
+write-bytes-requires c κs = search needs
 
-slice-write-s : tie.Need-slice-write-s
-slice-write-s c = search needs
-
-cast-s-2 : tie.Need-cast-s-2
-cast-s-2 c = search needs
-
-add-s : tie.Need-add-s
-add-s c = search needs
-
-slice-write-s-2 : tie.Need-slice-write-s-2
-slice-write-s-2 c = simp length-set (omega arith)
-
-cast-s-3 : tie.Need-cast-s-3
-cast-s-3 c = search needs
-
-add-s-2 : tie.Need-add-s-2
-add-s-2 c = search needs
-
-slice-write-s-3 : tie.Need-slice-write-s-3
-slice-write-s-3 c = simp length-set (omega arith)
-
-cast-s-4 : tie.Need-cast-s-4
-cast-s-4 c = search needs
-
-add-s-3 : tie.Need-add-s-3
-add-s-3 c = search needs
-
-slice-write-s-4 : tie.Need-slice-write-s-4
-slice-write-s-4 c = simp length-set (omega arith)
-
-cast-s-5 : tie.Need-cast-s-5
-cast-s-5 c = search needs
-
-add-s-4 : tie.Need-add-s-4
-add-s-4 c = search needs
-
-slice-write-s-5 : tie.Need-slice-write-s-5
-slice-write-s-5 c = simp length-set (omega arith)
-
-cast-s-6 : tie.Need-cast-s-6
-cast-s-6 c = search needs
-
-add-s-5 : tie.Need-add-s-5
-add-s-5 c = search needs
-
-slice-write-s-6 : tie.Need-slice-write-s-6
-slice-write-s-6 c = simp length-set (omega arith)
-
-cast-s-7 : tie.Need-cast-s-7
-cast-s-7 c = search needs
-
-add-s-6 : tie.Need-add-s-6
-add-s-6 c = search needs
-
-slice-write-s-7 : tie.Need-slice-write-s-7
-slice-write-s-7 c = simp length-set (omega arith)
-
-cast-s-8 : tie.Need-cast-s-8
-cast-s-8 c = search needs
-
-add-s-7 : tie.Need-add-s-7
-add-s-7 c = search needs
-
-slice-write-s-8 : tie.Need-slice-write-s-8
-slice-write-s-8 c = simp length-set (omega arith)
+write-bytes-requires-2 : tie.Need-write-bytes-requires-2
+write-bytes-requires-2 c κs = search needs
 
 same-length : tie.Need-same-length
-same-length c = simp length-set
+same-length c = search needs
 
 returns : tie.Need-returns
 returns c =
-    let a = c .args in
-    placed-be8 (a .at) (a .x) (now (a .s)) _ (simp towards-suc (simp towards-suc at (sets-eq (be8 (a .x)) (now (a .s)) (a .at) (search needs))))
+    let a = c .before .before .before .before .before .before .args in
+    let e : a .x ≡ 0 = search needs in
+    c .before .before .write-bytes .ensures ∙ ap (λ (n : ℕ). placed (a .at) (be 8 n) (now (a .s))) (sym e)
+
+same-length-2 : tie.Need-same-length-2
+same-length-2 c = search needs
+
+returns-2 : tie.Need-returns-2
+returns-2 c = search needs
 
 pub write-u64-spec : {M : Type 1} → statement M
 write-u64-spec =
     tie.close
     (tie.spec
-    cast-s
-    slice-write-s
-    cast-s-2
-    add-s
-    slice-write-s-2
-    cast-s-3
-    add-s-2
-    slice-write-s-3
-    cast-s-4
-    add-s-3
-    slice-write-s-4
-    cast-s-5
-    add-s-4
-    slice-write-s-5
-    cast-s-6
-    add-s-5
-    slice-write-s-6
-    cast-s-7
-    add-s-6
-    slice-write-s-7
-    cast-s-8
-    add-s-7
-    slice-write-s-8
+    write-bytes-requires
+    write-bytes-requires-2
     same-length
-    returns)
+    returns
+    same-length-2
+    returns-2)

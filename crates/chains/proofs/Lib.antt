@@ -1,0 +1,3 @@
+-- Laws of the table of chains.
+pub mod ChainLaws
+pub mod SlotAt

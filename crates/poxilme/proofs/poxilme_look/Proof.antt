@@ -1,0 +1,71 @@
+-- `poxilme::poxilme_look` meets its contract: 9, or what `store::look` does. Assumes nothing.
+use Rattle.image.specs.Image.{bytes-step}
+use Rattle.lent_calls.proofs.Joining.{unfit, fit, short-exported, exported, stepped-as}
+use Rattle.lent_calls.proofs.Lengths.{anchored-hash, slot-long, slot-anchored, anchored-reply}
+use Rattle.lent_calls.specs.Arguments.{slot-enough}
+use Rattle.model.specs.Store.{on-store, at-anchor, on-slot, look}
+use Rattle.model.specs.declared.delta_snapshot.Slot.{Slot}
+use Rattle.model.specs.declared.storage_memo.ReadAnchor.{ReadAnchor}
+use Rattle.replies.specs.Replies.{alone}
+use denote.Ref.{now}
+use mathlib.Core.Path.{_≡_, ap₂}
+use borrow.Author.Needs.{needs}
+use Rattle.poxilme.proofs.poxilme_look.Statement.{statement}
+use Rattle.poxilme.proofs.poxilme_look.Tie as tie
+
+slot-enough-requires : tie.Need-slot-enough-requires
+slot-enough-requires c κs = search needs
+
+same-length : tie.Need-same-length
+same-length c = search needs
+
+returns : tie.Need-returns
+returns c =
+    let f = c .before in
+    let a = f .before .before .before .before .before .before .args in
+    short-exported (now (a .s)) (now (a .reply)) _ (unfit (f .slot-enough .ensures) (c .if1 .taken))
+
+anchor-requires : tie.Need-anchor-requires
+anchor-requires c κs =
+    let f = c .before in
+    let a = f .before .before .before .before .before .before .args in
+    anchored-hash (now (a .hash)) (now (a .reply)) (slot-anchored (now (a .hash)) (now (a .reply)) (now (a .slot)) (fit (f .slot-enough .ensures) (c .if1 .left)))
+
+slot-requires : tie.Need-slot-requires
+slot-requires c κs =
+    let f = c .before .before in
+    let a = f .before .before .before .before .before .before .args in
+    slot-long (now (a .hash)) (now (a .reply)) (now (a .slot)) (fit (f .slot-enough .ensures) (c .before .if1 .left))
+
+look-requires : tie.Need-look-requires
+look-requires c κs = search needs
+
+write-look-requires : tie.Need-write-look-requires
+write-look-requires c κs =
+    let f = c .before .before .before .before .before in
+    let a = f .before .before .before .before .before .before .args in
+    anchored-reply (now (a .hash)) (now (a .reply)) (slot-anchored (now (a .hash)) (now (a .reply)) (now (a .slot)) (fit (f .slot-enough .ensures) (c .before .before .before .before .if1 .left)))
+
+same-length-2 : tie.Need-same-length-2
+same-length-2 c = search needs
+
+returns-2 : tie.Need-returns-2
+returns-2 c =
+    let f = c .before .before .before .before .before .before .before .before in
+    let a = f .before .before .before .before .before .before .args in
+    let st = stepped-as (ap₂ (λ (x : ReadAnchor) (y : Slot). bytes-step (now (a .s)) (alone (on-store (at-anchor x (on-slot (look y)))))) (c .before .before .before .before .before .before .anchor .ensures) (c .before .before .before .before .before .slot .ensures)) (c .before .before .before .before .look .ensures) in
+    exported (now (a .s)) (now (a .reply)) _ {fits = slot-enough (now (a .hash)) (now (a .slot)) (now (a .reply))} (fit (f .slot-enough .ensures) (c .before .before .before .before .before .before .before .if1 .left)) (c .before .before .write-look .ensures) st
+
+pub poxilme-look-spec : {M : Type 1} → statement M
+poxilme-look-spec =
+    tie.close
+    (tie.spec
+    slot-enough-requires
+    same-length
+    returns
+    anchor-requires
+    slot-requires
+    look-requires
+    write-look-requires
+    same-length-2
+    returns-2)
