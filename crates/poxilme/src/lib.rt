@@ -152,16 +152,8 @@ pub extern "C" fn poxilme_advance(
         return 9;
     }
     let anchor = lent_calls::anchor(number, hash);
-    let r = store::advance(
-        s,
-        anchor,
-        lent_calls::value(parent_hash),
-        skip,
-        addresses,
-        writes,
-        work,
-        out,
-    );
+    let parent = lent_calls::value(parent_hash);
+    let r = store::advance(s, anchor, parent, skip, addresses, writes, work, out);
     lent_calls::write_advance(reply, r)
 }
 
@@ -392,16 +384,8 @@ pub extern "C" fn poxilme_advance_unchecked(
         return 9;
     }
     let anchor = lent_calls::anchor(number, hash);
-    let r = unchecked_advance::advance(
-        s,
-        anchor,
-        lent_calls::value(parent_hash),
-        skip,
-        addresses,
-        writes,
-        work,
-        out,
-    );
+    let parent = lent_calls::value(parent_hash);
+    let r = unchecked_advance::advance(s, anchor, parent, skip, addresses, writes, work, out);
     lent_calls::write_advance(reply, r)
 }
 

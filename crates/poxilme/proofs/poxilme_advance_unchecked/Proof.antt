@@ -41,9 +41,9 @@ anchor-requires c κs =
 
 value-requires : tie.Need-value-requires
 value-requires c κs =
-    let f = c .before .before .before in
+    let f = c .before .before in
     let a = f .before .before .before .before .before .before .before .before .before .before .args in
-    advance-long (now (a .hash)) (now (a .reply)) (now (a .parent-hash)) (fit {fits = advance-enough (now (a .hash)) (now (a .parent-hash)) (now (a .reply))} (f .advance-enough .ensures) (c .before .before .if1 .left))
+    advance-long (now (a .hash)) (now (a .reply)) (now (a .parent-hash)) (fit {fits = advance-enough (now (a .hash)) (now (a .parent-hash)) (now (a .reply))} (f .advance-enough .ensures) (c .before .if1 .left))
 
 advance-requires : tie.Need-advance-requires
 advance-requires c κs = decoded-some _ (c .before .before .before .before .before .before .before .before .before .before .before .before .before .before .before .before .pre)
@@ -70,7 +70,7 @@ returns-2 : tie.Need-returns-2
 returns-2 c =
     let f = c .before .before .before .before .before .before .before .before .before .before .before .before .before .before .before .before .before in
     let a = f .before .before .before .before .before .before .before .before .before .before .args in
-    let st = advanced-as (ap₂ (λ (x : ReadAnchor) (h : U256). bytes-step (now (a .s)) (advance-call x h (a .skip) (now (a .addresses)) (now (a .writes)) (now (a .work)) (now (a .out)))) (c .before .before .before .before .before .before .before .before .before .before .before .before .before .before .before .anchor .ensures) (c .before .before .before .before .before .before .before .before .before .before .before .before .before .value .ensures)) (c .before .before .before .before .before .before .before .before .before .before .advance .ensures) in (
+    let st = advanced-as (ap₂ (λ (x : ReadAnchor) (h : U256). bytes-step (now (a .s)) (advance-call x h (a .skip) (now (a .addresses)) (now (a .writes)) (now (a .work)) (now (a .out)))) (c .before .before .before .before .before .before .before .before .before .before .before .before .before .before .before .anchor .ensures) (c .before .before .before .before .before .before .before .before .before .before .before .before .before .before .value .ensures)) (c .before .before .before .before .before .before .before .before .before .before .advance .ensures) in (
       exported-output (now (a .s)) (now (a .reply)) _ {fits = advance-enough (now (a .hash)) (now (a .parent-hash)) (now (a .reply))} (fit {fits = advance-enough (now (a .hash)) (now (a .parent-hash)) (now (a .reply))} (f .advance-enough .ensures) (c .before .before .before .before .before .before .before .before .before .before .before .before .before .before .before .before .if1 .left)) (c .before .before .write-advance .ensures _) (now (a .out)) (record { answer-is = st .answer-is; bytes-is = st .bytes-is }) (st .output-is),
       keeps (now (a .s)) (advance-call (lent-anchor (a .number) (now (a .hash))) (u256-at 0 (now (a .parent-hash))) (a .skip) (now (a .addresses)) (now (a .writes)) (now (a .work)) (now (a .out))) (and-intro _ _ (lent-anchor-fits (a .number) (now (a .hash)) (omega arith) (known-bytes (now (a .hash)) (c .before .before .before .before .before .before .before .before .before .before .before .before .before .before .before .before .before .before .before .before .before .before .before .before .before .shared-slice-known .given))) (writes-of-fit (now (a .writes)) (known-bytes (now (a .writes)) (c .before .before .before .before .before .before .before .before .before .before .before .before .before .before .before .before .before .before .before .before .before .before .shared-slice-known4 .given)))) (st .bytes-is) (c .before .before .before .before .before .before .before .before .before .before .before .before .before .before .before .before .before .before .before .before .before .before .before .before .before .before .before .pre),
     )
