@@ -28,12 +28,12 @@ use Rattle.image.proofs.Lent.{generation-in}
 use Rattle.image.proofs.RecordsOk.{layer-ok, highest-is-freshest, chain-ok-drop}
 use Rattle.records.specs.declared.Found.{Found}
 use Rattle.records.specs.declared.Found.the-variants.{At as FoundAt, Absent as FoundAbsent}
-use Rattle.records.specs.Records.{place-from, place-in, words-at, record-at}
+use Rattle.records.specs.Records.{place-from, place-in, place-number, words-at, record-at}
 use Rattle.records.proofs.Places.{found-lt, found-content, absent-none}
 use Rattle.records.proofs.RecordsAt.{record-words-at}
 use Rattle.layers.specs.declared.Row.{Row}
 use Rattle.layers.specs.declared.Row.the-variants.{None as NoRow, At as RowAt}
-use Rattle.layers.specs.Answers.{row-content, First, HighestIn, ValueAt}
+use Rattle.layers.specs.Answers.{row-content, First, HighestIn, ValueIn, ValueAt}
 
 -- Records in bytes ------------------------------------------------------------------------------------
 
@@ -62,8 +62,8 @@ module _ (b : List ℕ) (from : ℕ) (l : Layer) (area : Area b from l) (x n : �
   pub area-asks : (records-offset + record-size * (x + n) ≤ length b) × (rising (records-of n (drop (records-offset + record-size * x) b)) ≡ true)
   area-asks = (omega (arith, area .room), ap rising area-reads ∙ area .rises)
 
-  pub area-finds : (t : Slot) (f : Found) → f ≡ place-in t (records-of n (drop (records-offset + record-size * x) b)) → f ≡ place-in t l
-  area-finds t f e = e ∙ ap (place-in t) area-reads
+  pub area-finds : (t : Slot) (k : ℕ) → k ≡ place-number (place-in t (records-of n (drop (records-offset + record-size * x) b))) → k ≡ place-number (place-in t l)
+  area-finds t k e = e ∙ ap (λ (y : Layer). place-number (place-in t y)) area-reads
 
 -- A layer without records.
 pub empty-place : (l : Layer) (t : Slot) → length l ≡ 0 → FoundAbsent 0 ≡ place-in t l
@@ -258,7 +258,7 @@ module _ (r : Row) (t : Slot) (k : ℕ) (b : List ℕ) (h : HighestIn r t k b) w
   highest-none e = subst (λ (x : Row). HighestIn x t k b) e h
 
 -- Of an answer that equals it.
-value-as : (r : Row) (b : List ℕ) {o p : Option Value} → o ≡ p → ValueAt r o b → ValueAt r p b
+value-as : (r : ℕ) (b : List ℕ) {o p : Option Value} → o ≡ p → ValueAt r o b → ValueAt r p b
 value-as r b e h = subst (λ (x : Option Value). ValueAt r x b) e h
 
 -- A row's value, or the one below.
@@ -277,10 +277,12 @@ or-below c h e = go (own-value c) e
     go (some v) q = not-both refl q
 
 module _ (t : Slot) (ls : List Layer) (k row : ℕ) (b : List ℕ) (f : First t ls k row b) where
-  pub value-here : has-value (row-content row b) ≡ true → ValueAt (RowAt k row) (held-value t ls) b
-  value-here e = (f .room, e, or-own (row-content row b) (held-value t (layers-below k (generation-of b .base))) e ∙ f .value-is)
+  pub value-here : has-value (row-content row b) ≡ true → ValueAt (row + 1) (held-value t ls) b
+  value-here e =
+      let h : ValueIn row (held-value t ls) b = record { room = f .room; has = e; value-is = or-own (row-content row b) (held-value t (layers-below k (generation-of b .base))) e ∙ f .value-is } in
+      (λ z. absurd (omega arith), λ i q. let m : row ≡ i = omega arith in subst (λ (x : ℕ). ValueIn x (held-value t ls) b) m h)
 
-  pub value-below : (r : Row) → has-value (row-content row b) ≡ false → ValueAt r (held-value t (layers-below k (generation-of b .base))) b → ValueAt r (held-value t ls) b
+  pub value-below : (r : ℕ) → has-value (row-content row b) ≡ false → ValueAt r (held-value t (layers-below k (generation-of b .base))) b → ValueAt r (held-value t ls) b
   value-below r e h = value-as r b (or-below (row-content row b) (held-value t (layers-below k (generation-of b .base))) e ∙ f .value-is) h
 
 -- What a look answers ---------------------------------------------------------------------------------
@@ -292,16 +294,15 @@ module _ (R : Retention) (g : Generation) (t : Slot) (u n : ℕ) (S : Retention)
       ap (λ (x : Bool). cond x (held-value t (chain g)) none) (d ∙ (λ i. serves (q i) u (m i)))
       ∙ ap (λ (x : Option LastUse). resolved-through-policy R (g .anchor .number) x (held-value t (chain g))) fresh
 
-  pub resolved-served : (r : Row) (s : List ℕ) → b ≡ true → ValueAt r (held-value t (chain g)) s → ValueAt r (resolved R g t) s
+  pub resolved-served : (r : ℕ) (s : List ℕ) → b ≡ true → ValueAt r (held-value t (chain g)) s → ValueAt r (resolved R g t) s
   resolved-served r s e h = value-as r s (ap (λ (x : Bool). cond x (held-value t (chain g)) none) (sym e) ∙ tested) h
 
   pub resolved-stale : b ≡ false → none ≡ resolved R g t
   resolved-stale e = ap (λ (x : Bool). cond x (held-value t (chain g)) none) (sym e) ∙ tested
 
 -- The answer of a row, by the row.
-module _ (r : Row) (o : Option Value) (b : List ℕ) (h : ValueAt r o b) where
-  pub value-none : r ≡ NoRow → none ≡ o
-  value-none e = subst (λ (x : Row). ValueAt x o b) e h
+pub no-row : {o : Option Value} {b : List ℕ} → none ≡ o → ValueAt 0 o b
+no-row e = (λ z. e, λ i q. absurd (omega arith))
 
-  pub value-at : (k row : ℕ) → r ≡ RowAt k row → ValueAt (RowAt k row) o b
-  value-at k row e = subst (λ (x : Row). ValueAt x o b) e h
+pub value-at : (r : ℕ) (o : Option Value) (b : List ℕ) → ValueAt r o b → (r ≡ 0 → ⊥) → ValueIn (r - 1) o b
+value-at r o b h n = h .1 (r - 1) (omega arith)

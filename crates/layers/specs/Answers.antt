@@ -47,7 +47,12 @@ abbrev pub HighestIn : Row → Slot → ℕ → List ℕ → Type 0
 HighestIn NoRow t k b = (freshest-use t (layers-below k (generation-of b .base)) ≡ none) × (held-value t (layers-below k (generation-of b .base)) ≡ none)
 HighestIn (RowAt j row) t k b = (j < k) × First t (layers-below k (generation-of b .base)) j row b
 
--- An answer by the record that holds it: a value is that of the record, one of the store's, and without a record there is none.
-abbrev pub ValueAt : Row → Option Value → List ℕ → Type 0
-ValueAt NoRow o b = none ≡ o
-ValueAt (RowAt k row) o b = (records-offset + record-size * (row + 1) ≤ length b) × (has-value (row-content row b) ≡ true) × (own-value (row-content row b) ≡ o)
+-- The value of record `row`, one of the store's, is the answer.
+pub record ValueIn (row : ℕ) (o : Option Value) (b : List ℕ) : Type 0 where
+  pub room : records-offset + record-size * (row + 1) ≤ length b
+  pub has : has-value (row-content row b) ≡ true
+  pub value-is : own-value (row-content row b) ≡ o
+
+-- An answer by one more than the number of the record that holds its value; 0 stands for no value.
+abbrev pub ValueAt : ℕ → Option Value → List ℕ → Type 0
+ValueAt r o b = (r ≡ 0 → none ≡ o) × ((row : ℕ) → r ≡ row + 1 → ValueIn row o b)

@@ -15,7 +15,7 @@ ghost use Rattle.model.specs.Store.{chain, resolved};
 ghost use Rattle.image.specs.WellFormed.{rising};
 ghost use Rattle.image.specs.Area.{records-of, layers-below};
 ghost use Rattle.image.specs.Lent.{store-of, generation-of, IsStore, Installed, layer-of};
-ghost use Rattle.records.specs.Records.{place-in};
+ghost use Rattle.records.specs.Records.{place-in, place-number};
 ghost use Rattle.layers.specs.Answers.{use-option, row-content, PlaceOf, First, HighestIn, ValueAt};
 
 // The last use of a slot, if it has one.
@@ -119,13 +119,22 @@ fn row_held(s: &[u8], row: usize) -> Held
     records::held(&s[layout::RECORDS_OFFSET..], row)
 }
 
-// The place of a slot among the n records from record `start` on.
-fn place_from(s: &[u8], start: usize, n: usize, slot: Slot) -> Found
+// The place of a slot among the n records from record `start` on, as a number.
+fn place_from(s: &[u8], start: usize, n: usize, slot: Slot) -> usize
     requires { ⌜ (records-offset + record-size * (start + n) ≤ length (now s)) × (rising (records-of n (drop (records-offset + record-size * start) (now s))) ≡ true) ⌝ }
-    ensures { λ r. ⌜ r ≡ place-in slot (records-of n (drop (records-offset + record-size * start) (now (s .entry)))) ⌝ }
+    ensures { λ r. ⌜ r ≡ place-number (place-in slot (records-of n (drop (records-offset + record-size * start) (now (s .entry))))) ⌝ }
 {
     let at = layout::RECORDS_OFFSET + layout::RECORD_SIZE * start;
     records::find(&s[at..], n, slot)
+}
+
+// The place of a slot among the top's records, as a number (`records::place_of`).
+pub fn top_number(s: &[u8], slot: Slot) -> usize
+    requires { ⌜ Installed (now s) ⌝ }
+    ensures { λ r. ⌜ r ≡ place-number (place-in slot (generation-of (now (s .entry)) .top)) ⌝ }
+{
+    let n = top_count(s);
+    place_from(s, top_start(s), n, slot)
 }
 
 // The place of a slot among the top's records.
@@ -133,8 +142,7 @@ pub fn top_place(s: &[u8], slot: Slot) -> Found
     requires { ⌜ Installed (now s) ⌝ }
     ensures { λ r. ⌜ r ≡ place-in slot (generation-of (now (s .entry)) .top) ⌝ }
 {
-    let n = top_count(s);
-    place_from(s, top_start(s), n, slot)
+    records::place_of(top_number(s, slot))
 }
 
 // The place of a slot among the records of layer k, which stand from `start` to `end`. A layer without records is not searched.
@@ -145,7 +153,7 @@ fn layer_place(s: &[u8], k: usize, start: usize, end: usize, slot: Slot) -> Foun
     if start == end {
         return Found::Absent(0);
     }
-    place_from(s, start, end - start, slot)
+    records::place_of(place_from(s, start, end - start, slot))
 }
 
 // The last use of a slot's record in the top, by its place there, if it has a value.
@@ -185,17 +193,17 @@ fn highest(s: &[u8], k: usize, slot: Slot) -> Row
     }
 }
 
-// The highest record of a slot with a value in the layers below k: its highest record there, or one from that record's layer down.
-fn value_row(s: &[u8], k: usize, slot: Slot) -> Row
+// One more than the number of the highest record of a slot with a value in the layers below k, its highest record there or one from that record's layer down; 0 if there is none.
+fn value_row(s: &[u8], k: usize, slot: Slot) -> usize
     requires { ⌜ Installed (now s) × (k ≤ length (generation-of (now s) .base)) ⌝ }
     ensures { λ r. ⌜ ValueAt r (held-value slot (layers-below k (generation-of (now (s .entry)) .base))) (now (s .entry)) ⌝ }
 {
     let found = highest(s, k, slot);
     let Row::At { layer, row } = found else {
-        return Row::None;
+        return 0;
     };
     if row_has(s, row) {
-        return Row::At { layer, row };
+        return row + 1;
     }
     value_row(s, layer, slot)
 }
@@ -212,23 +220,23 @@ pub fn freshest_use(s: &[u8], k: usize, slot: Slot) -> Use
     Use::At(row_use(s, row))
 }
 
-// The record whose value a look of a slot answers whose highest record is `row`: this one, or one from layer k - 1 down, if its use serves.
-fn served(s: &[u8], k: usize, row: usize, slot: Slot) -> Row
+// One more than the number of the record whose value a look of a slot answers whose highest record is `row`: this one, or one from layer k - 1 down, if its use serves; else 0.
+fn served(s: &[u8], k: usize, row: usize, slot: Slot) -> usize
     requires { ⌜ Installed (now s) × First slot (chain (generation-of (now s))) k row (now s) ⌝ }
     ensures { λ r. ⌜ ValueAt r (resolved (store-of (now (s .entry)) .config .retention) (generation-of (now (s .entry))) slot) (now (s .entry)) ⌝ }
 {
     let used = row_use(s, row);
     if !retention(s).serves(used, installed_number(s)) {
-        return Row::None;
+        return 0;
     }
     if row_has(s, row) {
-        return Row::At { layer: k, row };
+        return row + 1;
     }
     value_row(s, k, slot)
 }
 
-// The record whose value a look of a slot answers, by the slot's place in the top, if the slot's freshest use serves.
-pub fn served_row(s: &[u8], place: Found, slot: Slot) -> Row
+// The same of any slot, by its place in the top.
+pub fn served_row(s: &[u8], place: Found, slot: Slot) -> usize
     requires { ⌜ Installed (now s) × (place ≡ place-in slot (generation-of (now s) .top)) ⌝ }
     ensures { λ r. ⌜ ValueAt r (resolved (store-of (now (s .entry)) .config .retention) (generation-of (now (s .entry))) slot) (now (s .entry)) ⌝ }
 {
@@ -238,7 +246,7 @@ pub fn served_row(s: &[u8], place: Found, slot: Slot) -> Row
     }
     let found = highest(s, n, slot);
     let Row::At { layer, row } = found else {
-        return Row::None;
+        return 0;
     };
     served(s, layer, row, slot)
 }
@@ -249,10 +257,10 @@ pub fn resolved_at(s: &[u8], place: Found, slot: Slot) -> Held
     ensures { λ r. ⌜ held-option r ≡ resolved (store-of (now (s .entry)) .config .retention) (generation-of (now (s .entry))) slot ⌝ }
 {
     let found = served_row(s, place, slot);
-    let Row::At { layer: _, row } = found else {
+    if found == 0 {
         return Held::Nothing;
-    };
-    row_held(s, row)
+    }
+    row_held(s, found - 1)
 }
 
 // What a look of a slot answers.

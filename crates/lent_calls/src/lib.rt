@@ -198,14 +198,16 @@ pub fn write_no_value(reply: &mut [u8])
     words::clear(reply, 0, 40);
 }
 
-// The words of the value of record `row` of a store: 1, and the value's bytes, which stand in the record as in the reply.
+// The words of the value of record `row` of a store: 1, and the value's bytes, which stand in the record as in the reply. They go by an array of its own, so that they are compiled to whole moves: the compiler doesn't know that the reply is apart from the store.
 pub fn write_row(reply: &mut [u8], s: &[u8], row: usize)
     requires { ⌜ (reply-size ≤ length (now reply)) × (records-offset + record-size * (row + 1) ≤ length (now s)) × (has-value (row-content row (now s)) ≡ true) ⌝ }
     ensures { λ _. ⌜ now (reply .exit) ≡ with-words (value-words (own-value (row-content row (now (s .entry))))) (now (reply .entry)) ⌝ }
 {
-    words::write_u64(reply, 0, 1);
     let at = layout::RECORDS_OFFSET + layout::RECORD_SIZE * row + layout::VALUE_OFFSET;
-    words::place(reply, 8, &s[at..at + 32]);
+    let mut v = [0; 32];
+    words::place(&mut v, 0, &s[at..at + 32]);
+    words::write_u64(reply, 0, 1);
+    words::place(reply, 8, &v);
 }
 
 // A look's or a get's number and words.

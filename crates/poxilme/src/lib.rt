@@ -1,6 +1,5 @@
 // The static library for C and Rust: every public call of the store on numbers and lent bytes. docs/REFERENCE.md describes each.
 // A call gives 0, or its refusal's number; the words of an accepted call's reply stand in `reply`. Arguments that are too short are refused by 9, before every other refusal.
-use layers::Row;
 use reader::Cursor;
 ghost use mathlib.Core.Path.{_≡_};
 ghost use mathlib.Core.Bool.{true};
@@ -298,13 +297,13 @@ pub extern "C" fn poxilme_look_unchecked(
     if n != 0 {
         return n;
     }
-    let place = layers::top_place(s, t);
+    let place = records::place_of(layers::top_number(s, t));
     let found = layers::served_row(s, place, t);
-    let Row::At { layer: _, row } = found else {
+    if found == 0 {
         lent_calls::write_no_value(reply);
         return 0;
-    };
-    lent_calls::write_row(reply, s, row);
+    }
+    lent_calls::write_row(reply, s, found - 1);
     0
 }
 
@@ -328,16 +327,16 @@ pub extern "C" fn poxilme_get_unchecked(
     if n != 0 {
         return n;
     }
-    let place = layers::top_place(s, t);
+    let place = records::place_of(layers::top_number(s, t));
     let found = layers::served_row(s, place, t);
-    let Row::At { layer: _, row } = found else {
+    if found == 0 {
         lent_calls::write_no_value(reply);
         return 0;
-    };
+    }
     if !top::has_room(s, place) {
         return 23;
     }
-    lent_calls::write_row(reply, s, row);
+    lent_calls::write_row(reply, s, found - 1);
     top::touch_top(s, place, t);
     0
 }

@@ -29,6 +29,11 @@ place-from i s (r ∷ l) = cond (slot-eqb (r .slot) s) (At i) (cond (slot-ltb s 
 abbrev pub place-in : {A : Type 0} → Slot → LayerOf A → Found
 place-in s l = place-from 0 s l
 
+-- A place as one number: even where the record is, odd where it would go.
+abbrev pub place-number : Found → ℕ
+place-number (At i) = 2 * i
+place-number (Absent i) = 2 * i + 1
+
 -- The number of records, of n before, after a record is set at a place.
 abbrev pub count-after : Found → ℕ → ℕ
 count-after (At i) n = n

@@ -19,7 +19,8 @@ ghost use Rattle.words.specs.Parts.{part, placed};
 ghost use Rattle.image.specs.Image.{words-of, bytes-of, read-slot, read-record};
 ghost use Rattle.image.specs.WellFormed.{rising};
 ghost use Rattle.image.specs.Area.{records-of};
-ghost use Rattle.records.specs.Records.{slot-order, place-in, Entries, words-at, Ready, Holds};
+ghost use Rattle.records.specs.declared.Found.{Found};
+ghost use Rattle.records.specs.Records.{slot-order, place-in, place-number, Entries, words-at, Ready, Holds};
 
 // How a slot stands to another.
 pub enum Order {
@@ -197,10 +198,10 @@ pub fn write_content(s: &mut [u8], at: usize, c: Content)
     }
 }
 
-// The place of a slot among n entries of `wide` bytes each, which begin with their slots and rise, by halves.
-pub fn search(s: &[u8], wide: usize, n: usize, slot: Slot) -> Found
+// The place of a slot among n entries of `wide` bytes each, which begin with their slots and rise, by halves. It is answered as one number, which goes through no memory.
+fn search_number(s: &[u8], wide: usize, n: usize, slot: Slot) -> usize
     requires { ⌜ (slot-size ≤ wide) × (n * wide ≤ length (now s)) ⌝ }
-    ensures { λ r. ⌜ ((l : Layer) → Entries wide n (now (s .entry)) l → r ≡ place-in slot l) ⌝ }
+    ensures { λ r. ⌜ ((l : Layer) → Entries wide n (now (s .entry)) l → r ≡ place-number (place-in slot l)) ⌝ }
 {
     let mut lo = 0;
     let mut hi = n;
@@ -210,21 +211,39 @@ pub fn search(s: &[u8], wide: usize, n: usize, slot: Slot) -> Found
             Order::Less => {
                 lo = mid + 1;
             }
-            Order::Equal => return Found::At(mid),
+            Order::Equal => return 2 * mid,
             Order::Greater => {
                 hi = mid;
             }
         }
     }
-    Found::Absent(lo)
+    2 * lo + 1
 }
 
-// The place of a slot among the n records that s begins with.
-pub fn find(s: &[u8], n: usize, slot: Slot) -> Found
-    requires { ⌜ (n * record-size ≤ length (now s)) × (rising (records-of n (now s)) ≡ true) ⌝ }
-    ensures { λ r. ⌜ r ≡ place-in slot (records-of n (now (s .entry))) ⌝ }
+// The place of a number.
+pub fn place_of(k: usize) -> Found
+    ensures { λ r. ⌜ ((f : Found) → k ≡ place-number f → r ≡ f) ⌝ }
 {
-    search(s, layout::RECORD_SIZE, n, slot)
+    if k % 2 == 0 {
+        return Found::At(k / 2);
+    }
+    Found::Absent(k / 2)
+}
+
+// The place of a slot among n entries of `wide` bytes each, which begin with their slots and rise.
+pub fn search(s: &[u8], wide: usize, n: usize, slot: Slot) -> Found
+    requires { ⌜ (slot-size ≤ wide) × (n * wide ≤ length (now s)) ⌝ }
+    ensures { λ r. ⌜ ((l : Layer) → Entries wide n (now (s .entry)) l → r ≡ place-in slot l) ⌝ }
+{
+    place_of(search_number(s, wide, n, slot))
+}
+
+// The place of a slot among the n records that s begins with, as a number.
+pub fn find(s: &[u8], n: usize, slot: Slot) -> usize
+    requires { ⌜ (n * record-size ≤ length (now s)) × (rising (records-of n (now s)) ≡ true) ⌝ }
+    ensures { λ r. ⌜ r ≡ place-number (place-in slot (records-of n (now (s .entry)))) ⌝ }
+{
+    search_number(s, layout::RECORD_SIZE, n, slot)
 }
 
 // Puts a record before record i of the n that s begins with.

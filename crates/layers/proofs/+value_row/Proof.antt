@@ -2,7 +2,7 @@
 use borrow.Author.Needs.{needs}
 use mathlib.Core.Path.{sym, _∙_}
 use native.Mathlib.Omega.{arith}
-use Rattle.layers.proofs.Search.{highest-at, highest-none, value-here, value-below}
+use Rattle.layers.proofs.Search.{highest-at, highest-none, value-here, value-below, no-row}
 use Prim.Native.Nat.{ℕ, _<_}
 use borrow.Fn.Kinds.{In}
 use borrow.Fn.PlainCycle.{Measures, is, falls, and}
@@ -63,7 +63,7 @@ value-row-returns : (t : ℕ) → value-row-lts.Need-returns (
   value-row-below t,
   value-row.Post,
 ) (value-row-at t) value-row.Post
-value-row-returns t c = sym (highest-none _ _ _ _ (c .before .before .highest .ensures) (c .enum-told .given .1) .1)
+value-row-returns t c = no-row (sym (highest-none _ _ _ _ (c .before .before .highest .ensures) (c .enum-told .given .1) .1))
 
 value-row-row-has-requires : (t : ℕ) → value-row-lts.Need-row-has-requires (
   highest-reads.Asked,
@@ -74,6 +74,16 @@ value-row-row-has-requires : (t : ℕ) → value-row-lts.Need-row-has-requires (
   value-row.Post,
 ) (value-row-at t) value-row.Post
 value-row-row-has-requires t c κs = highest-at _ _ _ _ (c .before .before .before .highest .ensures) _ _ (c .before .found .given .1) .1 .room
+
+value-row-add-result : (t : ℕ) → value-row-lts.Need-add-result (
+  highest-reads.Asked,
+  highest-reads.Learnt,
+  row-has-reads.Asked,
+  row-has-reads.Learnt,
+  value-row-below t,
+  value-row.Post,
+) (value-row-at t) value-row.Post
+value-row-add-result t c = omega (arith, highest-at _ _ _ _ (c .before .before .before .before .before .highest .ensures) _ _ (c .before .before .before .found .given .1) .1 .room)
 
 value-row-returns-2 : (t : ℕ) → value-row-lts.Need-returns-2 (
   highest-reads.Asked,
@@ -126,6 +136,7 @@ pub +value-row-spec : {M : Type 1} → statement M
     (value-row-enum-told t)
     (value-row-returns t)
     (value-row-row-has-requires t)
+    (value-row-add-result t)
     (value-row-returns-2 t)
     (value-row-value-row-requires t)
     (value-row-returns-3 t)

@@ -9,7 +9,7 @@ use denote.Ref.{now}
 use Rattle.layout.specs.Layout.{record-size, records-offset}
 use Rattle.image.specs.WellFormed.{rising}
 use Rattle.image.specs.Area.{records-of}
-use Rattle.records.specs.Records.{place-in}
+use Rattle.records.specs.Records.{place-in, place-number}
 use Rattle.layers.proofs.Search.{lent-rest}
 use Rattle.layers.proofs.place_from.Statement.{statement}
 use Rattle.layers.proofs.place_from.Tie as tie
@@ -39,7 +39,7 @@ find-requires c κs =
 returns : tie.Need-returns
 returns c =
     let a = c .before .before .before .args in
-    c .find .ensures ∙ ap (λ (l : List ℕ). place-in (a .slot) (records-of (a .n) l)) (lent-rest (a .start) (now (a .s)))
+    c .find .ensures ∙ ap (λ (l : List ℕ). place-number (place-in (a .slot) (records-of (a .n) l))) (lent-rest (a .start) (now (a .s)))
 
 pub place-from-spec : {M : Type 1} → statement M
 place-from-spec =

@@ -1,12 +1,13 @@
 -- `layers::served` meets its contract. Assumes nothing.
 use borrow.Author.Needs.{needs}
+use Prim.Native.Nat.{_+_}
 use mathlib.Core.Path.{sym, ap, _∙_}
 use mathlib.Core.Option.{some}
+use native.Mathlib.Omega.{arith}
 use borrow.Author.Tests.{not-true, not-false}
 use denote.Ref.{now}
 use Rattle.image.specs.Lent.{store-of, generation-of}
-use Rattle.layers.specs.declared.Row.the-variants.{At as RowAt}
-use Rattle.layers.proofs.Search.{value-here, value-below, resolved-served, resolved-stale}
+use Rattle.layers.proofs.Search.{value-here, value-below, resolved-served, resolved-stale, no-row}
 use Rattle.layers.proofs.served.Statement.{statement}
 use Rattle.layers.proofs.served.Tie as tie
 
@@ -26,16 +27,19 @@ returns : tie.Need-returns
 returns c =
     let st = c .before .before .before .before .before .before in
     let b = now (st .args .s) in
-    resolved-stale (store-of b .config .retention) (generation-of b) (st .args .slot) _ _ _ _ (ap some (c .before .before .before .before .row-use .ensures) ∙ st .pre .1 .use-is) (c .before .before .before .retention .ensures) (c .before .before .installed-number .ensures) (c .before .serves .ensures) (not-true _ (c .if1 .taken))
+    no-row (resolved-stale (store-of b .config .retention) (generation-of b) (st .args .slot) _ _ _ _ (ap some (c .before .before .before .before .row-use .ensures) ∙ st .pre .1 .use-is) (c .before .before .before .retention .ensures) (c .before .before .installed-number .ensures) (c .before .serves .ensures) (not-true _ (c .if1 .taken)))
 
 row-has-requires : tie.Need-row-has-requires
 row-has-requires c κs = search needs
+
+add-result : tie.Need-add-result
+add-result c = omega (arith, c .before .before .before .before .before .before .before .before .pre .1 .room)
 
 returns-2 : tie.Need-returns-2
 returns-2 c =
     let st = c .before .before .before .before .before .before .before .before in
     let b = now (st .args .s) in
-    resolved-served (store-of b .config .retention) (generation-of b) (st .args .slot) _ _ _ _ (ap some (c .before .before .before .before .before .before .row-use .ensures) ∙ st .pre .1 .use-is) (c .before .before .before .before .before .retention .ensures) (c .before .before .before .before .installed-number .ensures) (c .before .before .before .serves .ensures) (RowAt (st .args .k) (st .args .row)) b (not-false _ (c .before .before .if1 .left)) (value-here _ _ _ _ _ (st .pre .1) (sym (c .before .row-has .ensures) ∙ c .if2 .taken))
+    resolved-served (store-of b .config .retention) (generation-of b) (st .args .slot) _ _ _ _ (ap some (c .before .before .before .before .before .before .row-use .ensures) ∙ st .pre .1 .use-is) (c .before .before .before .before .before .retention .ensures) (c .before .before .before .before .installed-number .ensures) (c .before .before .before .serves .ensures) (st .args .row + 1) b (not-false _ (c .before .before .if1 .left)) (value-here _ _ _ _ _ (st .pre .1) (sym (c .before .row-has .ensures) ∙ c .if2 .taken))
 
 value-row-requires : tie.Need-value-row-requires
 value-row-requires c κs = search needs
@@ -56,6 +60,7 @@ served-spec =
     serves-requires
     returns
     row-has-requires
+    add-result
     returns-2
     value-row-requires
     returns-3)

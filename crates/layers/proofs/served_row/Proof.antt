@@ -8,7 +8,7 @@ use Rattle.model.specs.Store.{chain}
 use Rattle.image.specs.Lent.{generation-of}
 use Rattle.records.specs.declared.Found.the-variants.{At as FoundAt, Absent as FoundAbsent}
 use Rattle.layers.specs.Answers.{First}
-use Rattle.layers.proofs.Search.{highest-at, highest-none, first-top, first-chain, unused}
+use Rattle.layers.proofs.Search.{highest-at, highest-none, first-top, first-chain, unused, no-row}
 use Rattle.layers.proofs.served_row.Statement.{statement}
 use Rattle.layers.proofs.served_row.Tie as tie
 
@@ -55,7 +55,7 @@ returns-2 c =
     let st = c .before .before .before .before .before .before .before in
     let i = c .before .before .before .enum-told .given .0 .0 in
     let e : st .args .place ≡ FoundAbsent i = search needs in
-    unused (now (st .args .s)) (st .args .slot) (st .pre .0) _ i (st .pre .1) e _ (c .before .before .before .before .before .layers .ensures) _ (highest-none _ _ _ _ (c .before .before .highest .ensures) (c .enum-told2 .given .1) .0)
+    no-row (unused (now (st .args .s)) (st .args .slot) (st .pre .0) _ i (st .pre .1) e _ (c .before .before .before .before .before .layers .ensures) _ (highest-none _ _ _ _ (c .before .before .highest .ensures) (c .enum-told2 .given .1) .0))
 
 served-requires-2 : tie.Need-served-requires-2
 served-requires-2 c κs =

@@ -1,24 +1,21 @@
 -- `layers::top_place` meets its contract. Assumes nothing.
 use borrow.Author.Needs.{needs}
 use denote.Ref.{now}
-use Rattle.layers.proofs.Search.{top-area, area-asks, area-finds}
+use Rattle.image.specs.Lent.{generation-of}
+use Rattle.records.specs.Records.{place-in}
 use Rattle.layers.proofs.top_place.Statement.{statement}
 use Rattle.layers.proofs.top_place.Tie as tie
 
-top-count-requires : tie.Need-top-count-requires
-top-count-requires c κs = search needs
+top-number-requires : tie.Need-top-number-requires
+top-number-requires c κs = search needs
 
-top-start-requires : tie.Need-top-start-requires
-top-start-requires c κs = search needs
-
-place-from-requires : tie.Need-place-from-requires
-place-from-requires c κs = let st = c .before .before .before in area-asks (now (st .args .s)) _ _ (top-area (now (st .args .s)) (st .pre)) _ _ (c .top-start .ensures) (c .before .top-count .ensures)
+place-of-requires : tie.Need-place-of-requires
+place-of-requires c κs = search needs
 
 returns : tie.Need-returns
 returns c =
-    let st = c .before .before .before .before in
-    area-finds (now (st .args .s)) _ _ (top-area (now (st .args .s)) (st .pre)) _ _ (c .before .top-start .ensures) (c .before .before .top-count .ensures) (st .args .slot) _ (c .place-from .ensures)
+    let a = c .before .before .before .args in
+    c .place-of .ensures (place-in (a .slot) (generation-of (now (a .s)) .top)) (c .before .top-number .ensures)
 
 pub top-place-spec : {M : Type 1} → statement M
-top-place-spec =
-    tie.close (tie.spec top-count-requires top-start-requires place-from-requires returns)
+top-place-spec = tie.close (tie.spec top-number-requires place-of-requires returns)

@@ -1,5 +1,5 @@
 -- `poxilme::poxilme_get_unchecked` meets its contract: 9, 21, 22 or 23, or what the record found says. Assumes nothing.
-use Prim.Native.Nat.{ℕ, _≤_}
+use Prim.Native.Nat.{ℕ, _-_, _≤_}
 use mathlib.Core.Path.{_≡_, refl, sym, ap, _∙_}
 use mathlib.Core.Bool.{true}
 use mathlib.Core.List.{List}
@@ -16,9 +16,9 @@ use Rattle.image.specs.Image.{bytes-step, overlay}
 use Rattle.image.specs.Lent.{store-of, generation-of}
 use Rattle.image.proofs.Lent.{decoded-some}
 use Rattle.replies.specs.Replies.{alone, Stepped}
-use Rattle.layers.specs.Answers.{row-content, ValueAt}
-use Rattle.layers.specs.declared.Row.the-variants.{At as RowAt}
-use Rattle.layers.proofs.Search.{value-none, value-at}
+use Rattle.records.specs.Records.{place-in}
+use Rattle.layers.specs.Answers.{row-content, ValueIn}
+use Rattle.layers.proofs.Search.{value-at}
 use Rattle.header.specs.Header.{lent-anchor}
 use Rattle.header.proofs.Guards.{Here, past-guard}
 use Rattle.header.proofs.Segments.{known-bytes}
@@ -59,20 +59,27 @@ said c e =
     let a = c .before .before .before .before .before .before .before .before .before .before .before .args in
     stepped-as (ap (λ (y : Slot). bytes-step (now (a .s)) (alone (on-store (at-anchor (lent-anchor (a .number) (now (a .hash))) (on-slot (get y)))))) (c .before .before .before .slot .ensures)) e
 
+-- The slot's place in the top.
+place : (c : tie.After-place-of) → let l = c .before .before .before in let a = l .before .before .before .before .before .before .before .before .before .before .before .args in c .place-of .result ≡ place-in (l .before .before .before .slot .result) (generation-of (now (a .s)) .top)
+place c =
+    let l = c .before .before .before in
+    let a = l .before .before .before .before .before .before .before .before .before .before .before .args in
+    c .place-of .ensures (place-in (l .before .before .before .slot .result) (generation-of (now (a .s)) .top)) (c .before .top-number .ensures)
+
 -- The record found.
-found : (c : tie.After-known-told) → let a = c .before .before .before .before .before .before .before .before .before .before .before .before .before .before .before .before .before .before .args in ValueAt (RowAt (c .before .found .given .0 .0) (c .before .found .given .0 .1 .0)) (resolved (store-of (now (a .s)) .config .retention) (generation-of (now (a .s))) (c .before .before .before .before .before .before .before .before .before .before .slot .result)) (now (a .s))
+found : (c : tie.Else3) → let l = c .before .before .before .before .before .before in let a = l .before .before .before .before .before .before .before .before .before .before .before .args in ValueIn (c .before .served-row .result - 1) (resolved (store-of (now (a .s)) .config .retention) (generation-of (now (a .s))) (l .before .before .before .slot .result)) (now (a .s))
 found c =
-    let r = c .before .before .before in
-    let a = c .before .before .before .before .before .before .before .before .before .before .before .before .before .before .before .before .before .before .args in
-    value-at (r .served-row .result) _ (now (a .s)) (r .served-row .ensures) _ _ (c .before .found .given .1)
+    let a = c .before .before .before .before .before .before .before .before .before .before .before .before .before .before .before .before .before .args in
+    value-at (c .before .served-row .result) _ (now (a .s)) (c .before .served-row .ensures) (c .if3 .left)
 
 -- With room, the place is one where the record can be set.
-ready : (c : tie.Else3) → let a = c .before .before .before .before .before .before .before .before .before .before .before .before .before .before .before .before .before .before .before .before .before .args in Placed (c .before .before .before .before .before .before .before .before .top-place .result) (c .before .before .before .before .before .before .before .before .before .before .before .before .before .slot .result) (now (a .s))
+ready : (c : tie.Else4) → let o = c .before .before .before .before .before .before in let l = o .before .before .before in let a = l .before .before .before .before .before .before .before .before .before .before .before .args in Placed (o .place-of .result) (l .before .before .before .slot .result) (now (a .s))
 ready c =
+    let o = c .before .before .before .before .before .before in
     record {
-      installed = here (c .before .before .before .before .before .before .before .before .before .before) .has;
-      place-is = c .before .before .before .before .before .before .before .before .top-place .ensures;
-      room = room-yes _ _ _ (c .before .has-room .ensures) (not-false _ (c .if3 .left));
+      installed = here (o .before .before .before) .has;
+      place-is = place o;
+      room = room-yes _ _ _ (c .before .has-room .ensures) (not-false _ (c .if4 .left));
     }
 
 slot-enough-requires : tie.Need-slot-enough-requires
@@ -116,17 +123,14 @@ returns-2 c =
       st .pre,
     )
 
-top-place-requires : tie.Need-top-place-requires
-top-place-requires c κs = here (c .before) .has
+top-number-requires : tie.Need-top-number-requires
+top-number-requires c κs = here (c .before) .has
+
+place-of-requires : tie.Need-place-of-requires
+place-of-requires c κs = search needs
 
 served-row-requires : tie.Need-served-row-requires
-served-row-requires c κs = (here (c .before .before .before) .has, c .before .top-place .ensures)
-
-enum-known-found : tie.Need-enum-known-found
-enum-known-found c = search needs
-
-enum-told : tie.Need-enum-told
-enum-told c = search needs
+served-row-requires c κs = (here (c .before .before .before .before) .has, place (c .before))
 
 write-no-value-requires : tie.Need-write-no-value-requires
 write-no-value-requires c κs = reply-long (c .before .before .before .before .before .before .before .before .before .before .before)
@@ -139,20 +143,20 @@ same-length-5 c = search needs
 
 returns-3 : tie.Need-returns-3
 returns-3 c =
-    let r = c .before .before .before .before .before .before in
-    let l = r .before .before .before .before in
+    let r = c .before .before .before .before .before in
+    let l = r .before .before .before .before .before in
     let k = l .before .before .before .before .before .before .before .before .before .before in
     let st = k .before in
     let a = st .args in
     let s = now (a .s) in
-    let z = value-none (r .served-row .result) _ s (r .served-row .ensures) (c .before .before .before .before .enum-told .given .1) in (
+    let z = r .served-row .ensures .0 (c .before .before .before .before .if3 .taken) in (
       exported s (now (a .reply)) _ {fits = slot-enough (now (a .hash)) (now (a .slot)) (now (a .reply))} (fits (l .before .before .before .before)) (valued-gives none (c .before .before .write-no-value .ensures))
           (said l (got-none s (known-bytes s (k .slice-known .given)) (lent-anchor (a .number) (now (a .hash))) (here l) (l .before .before .before .slot .result) none z refl)),
       st .pre,
     )
 
 has-room-requires : tie.Need-has-room-requires
-has-room-requires c κs = here (c .before .before .before .before .before .before .before .before) .has
+has-room-requires c κs = here (c .before .before .before .before .before .before .before) .has
 
 same-length-6 : tie.Need-same-length-6
 same-length-6 c = search needs
@@ -162,23 +166,26 @@ same-length-7 c = search needs
 
 returns-4 : tie.Need-returns-4
 returns-4 c =
-    let kt = c .before .before .before in
-    let l = kt .before .before .before .before .before .before .before in
+    let f = c .before .before .before in
+    let l = f .before .before .before .before .before .before in
     let k = l .before .before .before .before .before .before .before .before .before .before in
     let st = k .before in
     let a = st .args in
     let s = now (a .s) in
-    let h = found kt in (
+    let h = found f in (
       exported s (now (a .reply)) _ {fits = slot-enough (now (a .hash)) (now (a .slot)) (now (a .reply))} (fits (l .before .before .before .before)) (refused-gives 23 refl)
-          (said l (got-full s (known-bytes s (k .slice-known .given)) (lent-anchor (a .number) (now (a .hash))) (here l) (l .before .before .before .slot .result) (own-value (row-content (kt .before .found .given .0 .1 .0) s)) (h .2) (h .1) _ (kt .before .before .before .before .before .top-place .ensures) (room-no _ _ _ (c .before .has-room .ensures) (not-true _ (c .if3 .taken))))),
+          (said l (got-full s (known-bytes s (k .slice-known .given)) (lent-anchor (a .number) (now (a .hash))) (here l) (l .before .before .before .slot .result) (own-value (row-content (f .before .served-row .result - 1) s)) (h .value-is) (h .has) _ (place (f .before .before .before)) (room-no _ _ _ (c .before .has-room .ensures) (not-true _ (c .if4 .taken))))),
       st .pre,
     )
 
+sub-write-row : tie.Need-sub-write-row
+sub-write-row c = search needs
+
 write-row-requires : tie.Need-write-row-requires
 write-row-requires c κs =
-    let kt = c .before .before .before .before .before in
-    let h = found kt in
-    (reply-long (kt .before .before .before .before .before .before .before .before .before .before .before), h .0, h .1)
+    let f = c .before .before .before .before .before in
+    let h = found f in
+    (reply-long (f .before .before .before .before .before .before .before .before .before .before), h .room, h .has)
 
 touch-top-requires : tie.Need-touch-top-requires
 touch-top-requires c κs = ready (c .before .before .before .before .before .before)
@@ -191,17 +198,17 @@ same-length-9 c = search needs
 
 returns-5 : tie.Need-returns-5
 returns-5 c =
-    let e3 = c .before .before .before .before .before .before .before .before .before in
-    let kt = e3 .before .before .before in
-    let l = kt .before .before .before .before .before .before .before in
+    let e4 = c .before .before .before .before .before .before .before .before .before in
+    let f = e4 .before .before .before in
+    let l = f .before .before .before .before .before .before in
     let k = l .before .before .before .before .before .before .before .before .before .before in
     let st = k .before in
     let a = st .args in
     let s = now (a .s) in
-    let h = found kt in
-    let o = own-value (row-content (kt .before .found .given .0 .1 .0) s) in
-    let p = ready e3 in
-    let done = said l (with-bytes {x = overlay (topped (store-of s .config) (generation-of s) (touched-top (generation-of s) (l .before .before .before .slot .result))) s} (c .before .before .touch-top .ensures) (got s (known-bytes s (k .slice-known .given)) (lent-anchor (a .number) (now (a .hash))) (here l) (l .before .before .before .slot .result) o (h .2) (h .1) _ (p .place-is) (p .room))) in (
+    let h = found f in
+    let o = own-value (row-content (f .before .served-row .result - 1) s) in
+    let p = ready e4 in
+    let done = said l (with-bytes {x = overlay (topped (store-of s .config) (generation-of s) (touched-top (generation-of s) (l .before .before .before .slot .result))) s} (c .before .before .touch-top .ensures) (got s (known-bytes s (k .slice-known .given)) (lent-anchor (a .number) (now (a .hash))) (here l) (l .before .before .before .slot .result) o (h .value-is) (h .has) _ (p .place-is) (p .room))) in (
       exported s (now (a .reply)) _ {fits = slot-enough (now (a .hash)) (now (a .slot)) (now (a .reply))} (fits (l .before .before .before .before)) (valued-gives o (c .before .before .before .before .before .before .write-row .ensures)) done,
       keeps s (alone (on-store (at-anchor (lent-anchor (a .number) (now (a .hash))) (on-slot (get (slot-of (now (a .slot)))))))) (slot-of-fits (now (a .slot)) (known-bytes (now (a .slot)) (l .before .before .before .before .before .before .before .before .shared-slice-known2 .given))) (done .bytes-is) (st .pre),
     )
@@ -218,10 +225,9 @@ poxilme-get-unchecked-spec =
     same-length-2
     same-length-3
     returns-2
-    top-place-requires
+    top-number-requires
+    place-of-requires
     served-row-requires
-    enum-known-found
-    enum-told
     write-no-value-requires
     same-length-4
     same-length-5
@@ -230,6 +236,7 @@ poxilme-get-unchecked-spec =
     same-length-6
     same-length-7
     returns-4
+    sub-write-row
     write-row-requires
     touch-top-requires
     same-length-8

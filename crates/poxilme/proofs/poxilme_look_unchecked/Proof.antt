@@ -1,5 +1,5 @@
 -- `poxilme::poxilme_look_unchecked` meets its contract: 9, 21 or 22, or what the record found says. Assumes nothing.
-use Prim.Native.Nat.{_≤_}
+use Prim.Native.Nat.{_-_, _≤_}
 use mathlib.Core.Path.{_≡_, refl, sym, ap, _∙_}
 use mathlib.Core.Bool.{true}
 use mathlib.Core.Option.{Option, none}
@@ -15,8 +15,9 @@ use Rattle.image.specs.Image.{bytes-step}
 use Rattle.image.specs.Lent.{store-of, generation-of}
 use Rattle.image.proofs.Lent.{decoded-some}
 use Rattle.replies.specs.Replies.{alone, Stepped}
+use Rattle.records.specs.Records.{place-in}
 use Rattle.layers.specs.Answers.{row-content}
-use Rattle.layers.proofs.Search.{value-none, value-at}
+use Rattle.layers.proofs.Search.{value-at}
 use Rattle.header.specs.Header.{lent-anchor}
 use Rattle.header.proofs.Guards.{Here, past-guard}
 use Rattle.header.proofs.Segments.{known-bytes}
@@ -84,17 +85,21 @@ returns-2 c =
     exported (now (a .s)) (now (a .reply)) _ {fits = slot-enough (now (a .hash)) (now (a .slot)) (now (a .reply))} (fits e1) (refused-gives (c .before .guard-lent .result) refl)
     (by-guard (now (a .s)) (lent-anchor (a .number) (now (a .hash))) (c .before .guard-lent .result) (plain-look (slot-of (now (a .slot)))) (decoded-some _ (st .pre)) (c .before .guard-lent .ensures) (c .if2 .taken))
 
-top-place-requires : tie.Need-top-place-requires
-top-place-requires c κs = here c .has
+-- The slot's place in the top.
+found : (c : tie.After-place-of) → let l = c .before .before in let a = l .before .before .before .before .before .before .before .before .before .before .args in c .place-of .result ≡ place-in (l .before .before .slot .result) (generation-of (now (a .s)) .top)
+found c =
+    let l = c .before .before in
+    let a = l .before .before .before .before .before .before .before .before .before .before .args in
+    c .place-of .ensures (place-in (l .before .before .slot .result) (generation-of (now (a .s)) .top)) (c .before .top-number .ensures)
+
+top-number-requires : tie.Need-top-number-requires
+top-number-requires c κs = here c .has
+
+place-of-requires : tie.Need-place-of-requires
+place-of-requires c κs = search needs
 
 served-row-requires : tie.Need-served-row-requires
-served-row-requires c κs = (here (c .before) .has, c .top-place .ensures)
-
-enum-known-found : tie.Need-enum-known-found
-enum-known-found c = search needs
-
-enum-told : tie.Need-enum-told
-enum-told c = search needs
+served-row-requires c κs = (here (c .before .before) .has, found c)
 
 -- The reply is long enough.
 reply-long : (c : tie.Else1) → let a = c .before .before .before .before .before .before .before .args in reply-size ≤ length (now (a .reply))
@@ -110,32 +115,35 @@ same-length-3 c = search needs
 
 returns-3 : tie.Need-returns-3
 returns-3 c =
-    let r = c .before .before .before .before .before .before in
-    let l = r .before .before in
+    let r = c .before .before .before .before .before in
+    let l = r .before .before .before in
     let a = l .before .before .before .before .before .before .before .before .before .before .args in
     exported (now (a .s)) (now (a .reply)) _ {fits = slot-enough (now (a .hash)) (now (a .slot)) (now (a .reply))} (fits (l .before .before .before)) (valued-gives none (c .before .before .write-no-value .ensures))
-    (said l none (value-none (r .served-row .result) _ (now (a .s)) (r .served-row .ensures) (c .before .before .before .before .enum-told .given .1)))
+    (said l none (r .served-row .ensures .0 (c .before .before .before .before .if3 .taken)))
+
+sub-write-row : tie.Need-sub-write-row
+sub-write-row c = search needs
 
 write-row-requires : tie.Need-write-row-requires
 write-row-requires c κs =
-    let r = c .before .before .before .before in
-    let l = r .before .before in
+    let r = c .before .before in
+    let l = r .before .before .before in
     let a = l .before .before .before .before .before .before .before .before .before .before .args in
-    let h = value-at (r .served-row .result) _ (now (a .s)) (r .served-row .ensures) _ _ (c .before .before .found .given .1) in
-    (reply-long (l .before .before .before), h .0, h .1)
+    let h = value-at (r .served-row .result) _ (now (a .s)) (r .served-row .ensures) (c .before .if3 .left) in
+    (reply-long (l .before .before .before), h .room, h .has)
 
 same-length-4 : tie.Need-same-length-4
 same-length-4 c = search needs
 
 returns-4 : tie.Need-returns-4
 returns-4 c =
-    let r = c .before .before .before .before .before .before .before in
-    let l = r .before .before in
+    let r = c .before .before .before .before .before in
+    let l = r .before .before .before in
     let a = l .before .before .before .before .before .before .before .before .before .before .args in
-    let h = value-at (r .served-row .result) _ (now (a .s)) (r .served-row .ensures) _ _ (c .before .before .before .before .before .found .given .1) in
-    let o = own-value (row-content (c .before .before .before .before .before .found .given .0 .1 .0) (now (a .s))) in
+    let h = value-at (r .served-row .result) _ (now (a .s)) (r .served-row .ensures) (c .before .before .before .before .if3 .left) in
+    let o = own-value (row-content (r .served-row .result - 1) (now (a .s))) in
     exported (now (a .s)) (now (a .reply)) _ {fits = slot-enough (now (a .hash)) (now (a .slot)) (now (a .reply))} (fits (l .before .before .before)) (valued-gives o (c .before .before .write-row .ensures))
-    (said l o (h .2))
+    (said l o (h .value-is))
 
 pub poxilme-look-unchecked-spec : {M : Type 1} → statement M
 poxilme-look-unchecked-spec =
@@ -148,13 +156,13 @@ poxilme-look-unchecked-spec =
     guard-lent-requires
     same-length-2
     returns-2
-    top-place-requires
+    top-number-requires
+    place-of-requires
     served-row-requires
-    enum-known-found
-    enum-told
     write-no-value-requires
     same-length-3
     returns-3
+    sub-write-row
     write-row-requires
     same-length-4
     returns-4)
