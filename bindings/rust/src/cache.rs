@@ -77,6 +77,15 @@ impl DeltaSnapshotCache {
     /// A record is a slot's entry in one layer; a slot can have several. So a store for 500 slots with 8 layers may need more
     /// than 500 records: docs/USING.md has a section on sizes.
     ///
+    /// ```
+    /// use poxilme::{DeltaSnapshotCache, Retention};
+    ///
+    /// let cache = DeltaSnapshotCache::new(256)?;
+    /// assert_eq!((cache.max_depth(), cache.retention()), (8, Retention::Unbounded));
+    /// assert_eq!((cache.anchor(), cache.records()), (None, 0));
+    /// # Ok::<(), poxilme::Refusal>(())
+    /// ```
+    ///
     /// # Errors
     ///
     /// [`Refusal::CapacityOutOfRange`] unless it is 1 to 4,096.
@@ -132,6 +141,20 @@ impl DeltaSnapshotCache {
 
     /// The store's bytes, to be kept over a restart or sent elsewhere: [`DeltaSnapshotCache::from_bytes`] takes them back.
     /// docs/LAYOUT.md says what stands where.
+    ///
+    /// ```
+    /// use poxilme::{DeltaSnapshotCache, ReadAnchor};
+    ///
+    /// let mut cache = DeltaSnapshotCache::new(16)?;
+    /// cache.for_anchor(ReadAnchor::at(7))?;
+    /// let file = std::env::temp_dir().join(format!("poxilme-{}", std::process::id()));
+    /// std::fs::write(&file, cache.as_bytes()).unwrap();
+    ///
+    /// let back = DeltaSnapshotCache::from_bytes(&std::fs::read(&file).unwrap())?;
+    /// assert_eq!(back, cache);
+    /// # std::fs::remove_file(&file).unwrap();
+    /// # Ok::<(), poxilme::Refusal>(())
+    /// ```
     #[must_use]
     pub fn as_bytes(&self) -> &[u8] {
         self.store.bytes()
@@ -143,7 +166,8 @@ impl DeltaSnapshotCache {
         self.store.into_bytes()
     }
 
-    /// The store that the bytes begin with. They are checked; bytes past the store are not looked at.
+    /// The store that the bytes begin with. They are checked; bytes past the store are not looked at. The check is of the form
+    /// and no checksum: bytes in which only a value was damaged pass it.
     ///
     /// That bytes are a store says nothing about the chain: go on with an advance from [`DeltaSnapshotCache::anchor`], which
     /// carries the values only if the next block is its child.
@@ -319,6 +343,19 @@ fn report(reply: &Reply, applied: &[u8]) -> DeltaReport {
 impl DeltaSnapshotCache {
     /// The value that a slot is served with. It changes nothing, and needs no exclusive borrow.
     ///
+    /// ```
+    /// use poxilme::{Address, DeltaSnapshotCache, ReadAnchor, Refusal, U256};
+    ///
+    /// let (anchor, slot) = (ReadAnchor::at(7), (Address([0x11; 20]), U256::from(8)));
+    /// let mut cache = DeltaSnapshotCache::new(16)?;
+    /// cache.for_anchor(anchor)?;
+    /// assert_eq!(cache.snapshot_value(anchor, slot)?, None);
+    /// cache.put(anchor, slot, U256::from(5))?;
+    /// assert_eq!(cache.snapshot_value(anchor, slot)?, Some(U256::from(5)));
+    /// assert_eq!(cache.snapshot_value(ReadAnchor::at(6), slot), Err(Refusal::OtherAnchor));
+    /// # Ok::<(), Refusal>(())
+    /// ```
+    ///
     /// # Errors
     ///
     /// [`Refusal::NothingInstalled`], [`Refusal::OtherAnchor`].
@@ -327,7 +364,26 @@ impl DeltaSnapshotCache {
         Ok(value(&reply))
     }
 
-    /// As [`DeltaSnapshotCache::snapshot_value`], and a served slot's last use is set to the installed number.
+    /// As [`DeltaSnapshotCache::snapshot_value`], and a served slot's last use is set to the installed number: under
+    /// [`Retention::IdleBlocks`] a slot stays served that somebody gets.
+    ///
+    /// ```
+    /// use poxilme::{Address, DeltaSnapshotCache, PreparedBal, ReadAnchor, RelevanceSet, Retention, B256, U256};
+    ///
+    /// let block = |n: u8| ReadAnchor::identified(u64::from(n), B256([n; 32]));
+    /// let (used, unused) = ((Address([0x11; 20]), U256::from(8)), (Address([0x11; 20]), U256::from(9)));
+    /// let mut cache = DeltaSnapshotCache::with_retention(16, Retention::IdleBlocks(1))?;
+    /// cache.for_anchor(block(7))?;
+    /// cache.put(block(7), used, U256::from(5))?;
+    /// cache.put(block(7), unused, U256::from(6))?;
+    ///
+    /// for n in 8..10 {
+    ///     cache.apply_prepared(block(n), B256([n - 1; 32]), &RelevanceSet::default(), &PreparedBal::decoded(&[]))?;
+    ///     assert_eq!(cache.get(block(n), used)?, Some(U256::from(5)));
+    /// }
+    /// assert_eq!(cache.get(block(9), unused)?, None);
+    /// # Ok::<(), poxilme::Refusal>(())
+    /// ```
     ///
     /// # Errors
     ///
@@ -402,6 +458,20 @@ impl DeltaSnapshotCache {
 
     /// The slots that were queued since the last take, rising; they are taken now.
     ///
+    /// ```
+    /// use poxilme::{Address, DeltaSnapshotCache, ReadAnchor, U256};
+    ///
+    /// let (anchor, pool) = (ReadAnchor::at(7), Address([0x11; 20]));
+    /// let mut cache = DeltaSnapshotCache::new(16)?;
+    /// cache.for_anchor(anchor)?;
+    /// for index in [9, 8, 9] {
+    ///     cache.read(anchor, (pool, U256::from(index)))?;
+    /// }
+    /// assert_eq!(cache.take_queued(anchor)?, [(pool, U256::from(8)), (pool, U256::from(9))]);
+    /// assert_eq!(cache.take_queued(anchor)?, []);
+    /// # Ok::<(), poxilme::Refusal>(())
+    /// ```
+    ///
     /// # Errors
     ///
     /// [`Refusal::NothingInstalled`], [`Refusal::OtherAnchor`].
@@ -412,7 +482,24 @@ impl DeltaSnapshotCache {
     }
 
     /// The answer to taken slots, some or all. A value is put and wakes the slot's waiters; a refusal wakes them refused. In
-    /// both cases the slot no longer awaits.
+    /// both cases the slot no longer awaits. Who waits is yours to know: the report counts them.
+    ///
+    /// ```
+    /// use poxilme::{Address, DeltaSnapshotCache, ReadAnchor, Refusal, U256};
+    ///
+    /// let (anchor, pool) = (ReadAnchor::at(7), Address([0x11; 20]));
+    /// let mut cache = DeltaSnapshotCache::new(16)?;
+    /// cache.for_anchor(anchor)?;
+    /// for index in [8, 9, 9] {
+    ///     cache.read(anchor, (pool, U256::from(index)))?;
+    /// }
+    /// let slots = cache.take_queued(anchor)?;
+    /// // The node gave a value for the first slot and an error for the second, which two reads wait for.
+    /// let round = cache.answer(anchor, &[(slots[0], Some(U256::from(5))), (slots[1], None)])?;
+    /// assert_eq!((round.storage_members, round.storage_member_errors, round.woken), (2, 1, 3));
+    /// assert_eq!(cache.answer(anchor, &[(slots[0], None)]), Err(Refusal::NotTaken));
+    /// # Ok::<(), Refusal>(())
+    /// ```
     ///
     /// # Errors
     ///
@@ -431,6 +518,19 @@ impl DeltaSnapshotCache {
 
     /// The answer of a round that failed as a whole: its taken slots no longer await, and their waiters are woken refused.
     ///
+    /// ```
+    /// use poxilme::{Address, DeltaSnapshotCache, Read, ReadAnchor, U256};
+    ///
+    /// let (anchor, slot) = (ReadAnchor::at(7), (Address([0x11; 20]), U256::from(8)));
+    /// let mut cache = DeltaSnapshotCache::new(16)?;
+    /// cache.for_anchor(anchor)?;
+    /// cache.read(anchor, slot)?;
+    /// let slots = cache.take_queued(anchor)?;
+    /// assert_eq!(cache.answer_failed(anchor, &slots)?.woken, 1);
+    /// assert_eq!(cache.read(anchor, slot)?, Read::Waiting { waiters: 1 });
+    /// # Ok::<(), poxilme::Refusal>(())
+    /// ```
+    ///
     /// # Errors
     ///
     /// [`Refusal::SlotTwice`], [`Refusal::NothingInstalled`], [`Refusal::OtherAnchor`], [`Refusal::NotTaken`].
@@ -441,6 +541,19 @@ impl DeltaSnapshotCache {
     }
 
     /// The totals of the installed generation's reads. Another anchor starts them at 0.
+    ///
+    /// ```
+    /// use poxilme::{Address, DeltaSnapshotCache, ReadAnchor, U256};
+    ///
+    /// let (anchor, slot) = (ReadAnchor::at(7), (Address([0x11; 20]), U256::from(8)));
+    /// let mut cache = DeltaSnapshotCache::new(16)?;
+    /// cache.for_anchor(anchor)?;
+    /// cache.read(anchor, slot)?;
+    /// cache.read(anchor, slot)?;
+    /// let totals = cache.read_totals()?;
+    /// assert_eq!((totals.accepted, totals.served, totals.waiting, totals.coalesced), (2, 0, 2, 1));
+    /// # Ok::<(), poxilme::Refusal>(())
+    /// ```
     ///
     /// # Errors
     ///
