@@ -12,6 +12,7 @@ pub mod index;
 pub mod listing;
 pub mod missing;
 pub mod named;
+pub mod numbers;
 pub mod record;
 pub mod sweep;
 pub mod tally;

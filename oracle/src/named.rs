@@ -1,17 +1,16 @@
 //! Choices of lists, as commands name them, each list with a name.
 
-use crate::{generate, sweep};
+use crate::{generate, numbers, sweep};
 
 pub type Lists = Box<dyn Iterator<Item = Vec<u8>>>;
 pub type Named = Box<dyn Iterator<Item = (String, Vec<u8>)>>;
 
-/// `KIND FROM TO`, `all FROM TO`, `exhaust LENGTH [BYTES]` or `sweep CALLS`.
+/// `KIND FROM TO`, `all FROM TO`, `exhaust LENGTH [BYTES]`, `sweep CALLS` or
+/// `numbers`.
 pub fn named_lists(words: &[&str]) -> Result<Named, &'static str> {
     Ok(match *words {
-        ["exhaust", ref choice @ ..] => {
-            let lists = byte_lists(choice)?;
-            Box::new(lists.map(|list| (format!("bytes {}", list_hex(&list)), list)))
-        }
+        ["exhaust", ref choice @ ..] => by_bytes(byte_lists(choice)?),
+        ["numbers"] => by_bytes(numbers::lists()),
         ["sweep", calls] => {
             let calls = number(calls)? as usize;
             let numbers = 0..sweep::sequences(calls);
@@ -29,6 +28,11 @@ pub fn named_lists(words: &[&str]) -> Result<Named, &'static str> {
         }
         _ => return Err("not a choice of lists"),
     })
+}
+
+/// Lists that have their bytes as names.
+fn by_bytes(lists: impl Iterator<Item = Vec<u8>> + 'static) -> Named {
+    Box::new(lists.map(|list| (format!("bytes {}", list_hex(&list)), list)))
 }
 
 /// The kinds that a word names: itself, or with `all` every kind.

@@ -47,3 +47,8 @@ fn short_lists() {
     agree(&["exhaust", "2"]);
     agree(&["exhaust", "5", "00010208097f80ff"]);
 }
+
+#[test]
+fn forms_of_numbers() {
+    agree(&["numbers"]);
+}

@@ -1,7 +1,7 @@
 //! Refusals and their order, on short lists.
 
 use oracle::listing::{detail, listing};
-use oracle::{cases, sweep};
+use oracle::{cases, numbers, sweep};
 
 const ANCHOR: [u8; 2] = [5, 0];
 const SLOT: [u8; 52] = [7; 52];
@@ -36,6 +36,27 @@ fn bytes_that_are_no_call() {
         lines(&[&[9], &ANCHOR, &[0], &huge, &member, &SLOT, &[2]]),
         "no 3"
     );
+}
+
+/// What an open of a capacity in each form gives, and that the forms have the
+/// limits among them.
+#[test]
+fn numbers_at_their_limits() {
+    let groups = |first: u8, others: usize, last: u8| [&vec![first; others][..], &[last]].concat();
+    let limits = [
+        (groups(0xff, 8, 0x7f), "no 1"), // 2^63 - 1, nine groups
+        (groups(0x80, 9, 1), "no 1"),    // 2^63, ten
+        (groups(0xff, 9, 1), "no 1"),    // 2^64 - 1
+        (groups(0x80, 9, 2), "no 4"),    // 2^64
+        (groups(0x80, 8, 0), "no 4"),    // 0 in nine groups
+        (groups(0x80, 10, 1), "no 4"),   // eleven groups
+        (groups(0x80, 8, 0x80), "no 5"), // nine, and the list ends
+    ];
+    for (form, line) in limits {
+        assert!(numbers::forms().contains(&form));
+        let whole = if line == "no 5" { &[][..] } else { &[0] };
+        assert_eq!(lines(&[&[1], &form, whole]), line);
+    }
 }
 
 #[test]

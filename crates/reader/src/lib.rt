@@ -85,7 +85,7 @@ fn read_tenth(s: &[u8], at: usize, worth: u64, sum: u64) -> Number
     requires { ⌜ (at ≤ length (now s)) × (worth ≡ 9223372036854775808) × (sum < worth) ⌝ }
     ensures { λ r. ⌜ Reading (number-answer (now (s .entry)) r) (number-from 0 worth sum (drop at (now (s .entry)))) at (number-next r) (length (now (s .entry))) ⌝ }
 {
-    if s.len() <= at {
+    if at == s.len() {
         return Number::Fault(5, Cursor { at: s.len() });
     }
     if s[at] == 1 {
@@ -101,10 +101,11 @@ pub fn read_number(s: &[u8], c: Cursor) -> Number
     ensures { λ r. ⌜ Reading (number-answer (now (s .entry)) r) (parse-number (drop (c .at) (now (s .entry)))) (c .at) (number-next r) (length (now (s .entry))) ⌝ }
 {
     let mut at = c.at;
-    let mut left: usize = 9;
+    // How many groups may come before the tenth.
+    let mut groups_left: u8 = 9;
     let mut worth: u64 = 1;
     let mut sum: u64 = 0;
-    while 0 < left {
+    while 0 < groups_left {
         if s.len() <= at {
             return Number::Fault(5, Cursor { at: s.len() });
         }
@@ -117,7 +118,7 @@ pub fn read_number(s: &[u8], c: Cursor) -> Number
         }
         sum += worth * (b - 128);
         worth *= 128;
-        left -= 1;
+        groups_left -= 1;
         at += 1;
     }
     read_tenth(s, at, worth, sum)
