@@ -32,9 +32,9 @@ oracle relist DIR                     recompute it and rewrite what moved; the
 oracle record DIR                     add the chosen lists that it lacks
 oracle convert DIR                    rewrite its lists in the present format
 
-LISTS is KIND|all FROM TO, exhaust LENGTH [BYTES], sweep CALLS or numbers (every
-form of a number at every place). With --ledger the ledger answers in place of
-the Rust: calls, exhaust, sweep, compare.
+LISTS is KIND|all FROM TO, exhaust LENGTH [BYTES], sweep CALLS or numbers (forms
+of a number around its limits, at every place). With --ledger the ledger answers
+in place of the Rust: calls, exhaust, sweep, compare.
 ";
 
 fn main() -> ExitCode {

@@ -1,5 +1,5 @@
-//! A number in every form around its limits, at every place that a call list
-//! has for one.
+//! A number in forms around its limits, at every place that a call list has
+//! for one.
 
 use crate::calls::Writer;
 use crate::sim::storage_memo::ReadAnchor;
@@ -10,7 +10,7 @@ const HASH: [u8; 32] = [9; 32];
 /// A ten-group number: the installed one.
 const INSTALLED: u64 = 1 << 63;
 
-/// One to twelve bytes. Among them are 2^63, 2^64 - 1 and 2^64, numbers of
+/// 384 forms of one to twelve bytes. Among them are 2^63, 2^64 - 1 and 2^64, numbers of
 /// nine, ten and eleven groups, long forms of smaller ones, and numbers that
 /// have no last group.
 pub fn forms() -> Vec<Vec<u8>> {
