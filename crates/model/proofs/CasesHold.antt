@@ -18,7 +18,7 @@ cases = refl
 
 -- Two functions with equal results over a list are equal at each of its members.
 map_agrees : (f g : Row → List Answer) (l : List Row) (a : Row) → map f l ≡ map g l → Memᴰ a l → f a ≡ g a
-map_agrees f g [] a e m = absurd (Memᴰ.not_nil m)
+map_agrees f g [] a e m = absurd (Memᴰ.not-nil m)
 map_agrees f g (x ∷ l) a e m = go (Memᴰ.cases_cons m) (map_agrees f g l a (tail-eq_of_cons-eq e))
   where
     go : (a ≡ x) ⊎ Memᴰ a l → (Memᴰ a l → f a ≡ g a) → f a ≡ g a

@@ -1,0 +1,14 @@
+-- `words::move_down` meets its contract.
+use mathlib.Core.Path.{◌≡◌}
+use Prim.Native.Nat.{◌+◌, ◌≤◌, ◌-◌}
+use lib.ListN.{length}
+use lib.Seq.{paste}
+use Rattle.words.specs.Parts.{part}
+use Rattle.words.proofs.move_down.Given as goal
+
+-- `words::move_down` meets its contract.
+abbrev pub invariant-loop-j : goal.invariant-loop-j
+invariant-loop-j l = (l.j ≤ l.n) × (length l.s ≡ length l.initial.s) × (l.s ≡ paste l.initial.s l.at (part (l.at + l.by) l.n l.initial.s) l.j)
+
+abbrev pub decreases-loop-j : goal.decreases-loop-j
+decreases-loop-j l = l.n - l.j

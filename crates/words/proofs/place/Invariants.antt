@@ -1,0 +1,13 @@
+-- `words::place` meets its contract. Assumes nothing.
+use mathlib.Core.Path.{◌≡◌}
+use Prim.Native.Nat.{◌≤◌, ◌-◌}
+use lib.ListN.{length}
+use lib.Seq.{paste}
+use Rattle.words.proofs.place.Given as goal
+
+-- `words::place` meets its contract. Assumes nothing.
+abbrev pub invariant-loop-j : goal.invariant-loop-j
+invariant-loop-j l = (l.j ≤ length l.r) × (length l.s ≡ length l.initial.s) × (l.s ≡ paste l.initial.s l.at l.r l.j)
+
+abbrev pub decreases-loop-j : goal.decreases-loop-j
+decreases-loop-j l = length l.r - l.j
