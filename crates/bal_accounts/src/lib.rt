@@ -10,7 +10,7 @@ use bal_plan::Cap;
 use model::storage_memo::Address;
 
 // What is lent for an account: its address and its numbers of slots and reads.
-#[derive(Drop)]
+#[derive(Clone, Copy)]
 pub struct LentAccount {
     pub address: Address,
     pub slots: usize,
@@ -18,7 +18,7 @@ pub struct LentAccount {
 }
 
 // Where the walk over accounts stands: the next slot, change and read, and the entries found.
-#[derive(Drop)]
+#[derive(Clone, Copy)]
 pub struct Walk {
     pub slot: usize,
     pub change: usize,

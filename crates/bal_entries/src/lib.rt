@@ -7,7 +7,7 @@ use model::delta_snapshot::Slot;
 use model::storage_memo::Address;
 
 // Where the walk over listed slots stands: the next slot, its first change, and the changed slots found.
-#[derive(Drop)]
+#[derive(Clone, Copy)]
 pub struct Spot {
     pub slot: usize,
     pub change: usize,

@@ -5,7 +5,7 @@ ghost use Rattle.bal_plan.specs.Plan.{admits_from, addresses_in, limit_of};
 use model::storage_memo::Address;
 
 // A cap of the plan.
-#[derive(Drop)]
+#[derive(Clone, Copy)]
 pub enum Cap {
     Unlimited,
     AtMost(u64),

@@ -15,7 +15,7 @@ use replies::{
 };
 
 // A call's answer: a refusal's number, or what it reports. The slots that a take lists are in its output.
-#[derive(Drop)]
+#[derive(Clone, Copy)]
 pub enum CallAnswer {
     Refused(u64),
     Open,

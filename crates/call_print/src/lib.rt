@@ -10,7 +10,7 @@ use reader::Cursor;
 const STORE_SIZE: usize = layout::RECORDS_OFFSET + 256 * layout::RECORD_SIZE;
 
 // A part of a listing: where the next part begins, the bytes to write, and whether it is the last one.
-#[derive(Drop)]
+#[derive(Clone, Copy)]
 struct Part {
     next: usize,
     written: usize,

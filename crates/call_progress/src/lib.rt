@@ -9,7 +9,7 @@ use reader::Cursor;
 pub const CALL_LINES: usize = 7237;
 
 // Where a run is: the next call's place in the list, the next line's in the output, whether the bytes are a store, whether the list has ended, whether a fault ended it, and that fault and its place.
-#[derive(Drop)]
+#[derive(Clone, Copy)]
 pub struct Progress {
     pub next: usize,
     pub at: usize,

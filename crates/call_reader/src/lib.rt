@@ -10,14 +10,14 @@ use model::storage_memo::{ReadAnchor, U256};
 use reader::{AnchorRead, Cursor, Form, Number, SlotRead, Span, SpanRead, Word};
 
 // A retention that was read.
-#[derive(Drop)]
+#[derive(Clone, Copy)]
 pub enum RetentionRead {
     Value(Retention, Cursor),
     Fault(u64, Cursor),
 }
 
 // A call on one slot.
-#[derive(Drop)]
+#[derive(Clone, Copy)]
 pub enum SlotCall {
     Look(Slot),
     Get(Slot),
@@ -26,7 +26,7 @@ pub enum SlotCall {
 }
 
 // A call at an anchor. An answer's members are 53 or 85 bytes each, a failed round's slots 52.
-#[derive(Drop)]
+#[derive(Clone, Copy)]
 pub enum AnchoredCall {
     OnSlot(SlotCall),
     Take,
@@ -35,14 +35,14 @@ pub enum AnchoredCall {
 }
 
 // What stands after the anchor of a call that names one.
-#[derive(Drop)]
+#[derive(Clone, Copy)]
 pub enum AnchoredRead {
     Value(AnchoredCall, Cursor),
     Fault(u64, Cursor),
 }
 
 // What was prepared for an advance: skip, relevant addresses of 20 bytes each and writes of 84.
-#[derive(Drop)]
+#[derive(Clone, Copy)]
 pub struct Prepared {
     pub skip: u64,
     pub relevance: Span,
@@ -50,14 +50,14 @@ pub struct Prepared {
 }
 
 // What was prepared, as it was read.
-#[derive(Drop)]
+#[derive(Clone, Copy)]
 pub enum PreparedRead {
     Value(Prepared, Cursor),
     Fault(u64, Cursor),
 }
 
 // A call, as the list says it. An open has its capacity alone, or depth and retention too. An advance has child and parent hash.
-#[derive(Drop)]
+#[derive(Clone, Copy)]
 pub enum ListedCall {
     OpenDefault(u64),
     OpenWith(u64, u64, Retention),
@@ -67,7 +67,7 @@ pub enum ListedCall {
 }
 
 // A call that was read.
-#[derive(Drop)]
+#[derive(Clone, Copy)]
 pub enum CallRead {
     Value(ListedCall, Cursor),
     Fault(u64, Cursor),

@@ -11,7 +11,7 @@ use call_reader::CallRead;
 use reader::Cursor;
 
 // A run's reply: 9; or the place of the next call, the bytes written and whether the list has ended; or the fault that ended the list, its place and the bytes written.
-#[derive(Drop)]
+#[derive(Clone, Copy)]
 pub enum RunReply {
     Refused(u64),
     Listed {

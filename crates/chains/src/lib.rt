@@ -41,7 +41,7 @@ fn same_slot(s: &[u8], i: usize, j: usize) -> bool
 }
 
 // What a search found, and how many steps are left. With none left nothing is found out.
-#[derive(Drop)]
+#[derive(Clone, Copy)]
 pub struct Walked {
     pub last: usize,
     pub left: usize,

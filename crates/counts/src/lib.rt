@@ -8,7 +8,7 @@ ghost use Rattle.counts.specs.Counts.{held_in, live_in};
 use model::delta_snapshot::Retention;
 
 // Both counts.
-#[derive(Drop)]
+#[derive(Clone, Copy)]
 pub struct Counts {
     pub held: usize,
     pub live: usize,

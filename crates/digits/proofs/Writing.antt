@@ -13,7 +13,7 @@ use Rattle.digits.specs.Written.{Written}
 -- the rest of a list from a byte just stored
 pub drop_stored : (s : List ℕ) (i b : ℕ) → i < length s → drop i (set s i b) ≡ b ∷ drop (suc i) s
 drop_stored s i b h =
-    drop-cons (set s i b) i 0 (simp lib.ListN.length_set h) ∙ ap₂ (λ (x : ℕ) (y : List ℕ). x ∷ y) (get_or-set_same s i b 0 h) (drop-set-lt (suc i) s i b (omega arith))
+    drop-cons (set s i b) i 0 (simp lib.ListN.length-set h) ∙ ap₂ (λ (x : ℕ) (y : List ℕ). x ∷ y) (get_or-set_same s i b 0 h) (drop-set-lt (suc i) s i b (omega arith))
 
 -- a text, and a byte that was stored where it ends
 pub placed_stored : (at b i : ℕ) (a s : List ℕ) → i ≡ at + length a → i < length s → placed at a (set s i b) ≡ placed at (a ++ (b ∷ [])) s

@@ -6,7 +6,7 @@ ghost use Rattle.final_change.specs.Eip7928.{FinalIsHighest};
 use model::storage_memo::U256;
 
 // The value of a slot after a block, where it has a change.
-#[derive(Drop)]
+#[derive(Clone, Copy)]
 pub enum FinalValue {
     Changed(U256),
     Unchanged,

@@ -12,7 +12,7 @@ use bal_accounts::Walk;
 use bal_plan::Cap;
 
 // The counts of a seed (`BalSeed`): its writes and reads, and the entries that the plan left out.
-#[derive(Drop)]
+#[derive(Clone, Copy)]
 pub struct SeedCounts {
     pub writes: u64,
     pub reads: u64,
@@ -21,7 +21,7 @@ pub struct SeedCounts {
 }
 
 // The reply of final writes: document 01's number of a refusal, or the counts of the seed.
-#[derive(Drop)]
+#[derive(Clone, Copy)]
 pub enum FinalWritesReply {
     Refused(u64),
     Seeded(SeedCounts),

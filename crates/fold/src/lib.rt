@@ -12,7 +12,7 @@ ghost use Rattle.fold.specs.Stored.{renewed, kept, Stored};
 use model::delta_snapshot::Retention;
 
 // How many slots a fold left and how many it dropped.
-#[derive(Drop)]
+#[derive(Clone, Copy)]
 pub struct Folded {
     pub left: usize,
     pub dropped: usize,

@@ -9,7 +9,7 @@ use libc::STDOUT_FILENO;
 const BEFORE: u8 = 0xa5;
 
 // What came of the next vector of the file.
-#[derive(Drop)]
+#[derive(Clone, Copy)]
 enum Run {
     End,
     Same,
@@ -228,7 +228,7 @@ fn say(n: u64, what: &[u8]) {
 }
 
 // The vectors run, and those that differ.
-#[derive(Drop)]
+#[derive(Clone, Copy)]
 struct Tally {
     run: u64,
     different: u64,

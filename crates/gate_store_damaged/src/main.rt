@@ -13,7 +13,7 @@ use store::{InstallReply, LookReply, OpenReply, PutReply, ReadReply, TakeReply};
 const STORE_SIZE: usize = layout::RECORDS_OFFSET + 4 * layout::RECORD_SIZE;
 
 // What a look on a damaged copy answers.
-#[derive(Drop)]
+#[derive(Clone, Copy)]
 pub enum Seen {
     NoStore,
     Same,
@@ -23,7 +23,7 @@ pub enum Seen {
 }
 
 // How many looks answered each of these.
-#[derive(Drop)]
+#[derive(Clone, Copy)]
 pub struct Tally {
     pub broken: usize,
     pub same: usize,

@@ -15,14 +15,14 @@ use model::delta_snapshot::{Held, Retention, Slot};
 use records::Found;
 
 // The last use of a slot, if it has one.
-#[derive(Drop)]
+#[derive(Clone, Copy)]
 pub enum Use {
     None,
     At(u64),
 }
 
 // The highest record of a slot in some layers, if there is one: the number of its layer, and its own among all records of the store.
-#[derive(Drop)]
+#[derive(Clone, Copy)]
 pub enum Row {
     None,
     At { layer: usize, row: usize },

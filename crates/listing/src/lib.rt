@@ -12,7 +12,7 @@ use model::read_hub::{CarryOutcome, Lineage};
 use model::storage_memo::U256;
 
 // The counts of an advance's report.
-#[derive(Drop)]
+#[derive(Clone, Copy)]
 pub struct AdvanceCounts {
     pub applied: u64,
     pub overwritten: u64,

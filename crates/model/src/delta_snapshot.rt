@@ -10,21 +10,21 @@ use crate::storage_memo::{Address, U256};
 pub const DEFAULT_MAX_DEPTH: u64 = 8;
 
 // One word of one account's storage.
-#[derive(Drop)]
+#[derive(Clone, Copy)]
 pub struct Slot {
     pub address: Address,
     pub index: U256,
 }
 
 // The value of a record, if it has one.
-#[derive(Drop)]
+#[derive(Clone, Copy)]
 pub enum Held {
     Nothing,
     Value(U256),
 }
 
 // What a record holds: its last use, and its value or none.
-#[derive(Drop)]
+#[derive(Clone, Copy)]
 pub struct Content {
     pub used: u64,
     pub held: Held,
@@ -41,7 +41,7 @@ impl Content {
 }
 
 // What a fold did: layers merged, slots left, slots dropped.
-#[derive(Drop)]
+#[derive(Clone, Copy)]
 pub struct CompactionReport {
     pub merged: usize,
     pub left: usize,
@@ -49,7 +49,7 @@ pub struct CompactionReport {
 }
 
 // How long a slot stays served without a use.
-#[derive(Drop)]
+#[derive(Clone, Copy)]
 pub enum Retention {
     Unbounded,
     IdleBlocks(u64),

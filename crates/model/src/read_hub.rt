@@ -2,7 +2,7 @@
 use crate::bal_prefetch::BalSkip;
 
 // How a child stands to the installed anchor: linked, or the reason why not (the source's `CarryRefusal`).
-#[derive(Drop)]
+#[derive(Clone, Copy)]
 pub enum Lineage {
     Linked,
     NoParent,
@@ -12,7 +12,7 @@ pub enum Lineage {
 }
 
 // What an advance did.
-#[derive(Drop)]
+#[derive(Clone, Copy)]
 pub enum CarryOutcome {
     AlreadyCurrent,
     Carried(u64),
@@ -20,7 +20,7 @@ pub enum CarryOutcome {
 }
 
 // The running totals of a generation's reads.
-#[derive(Drop)]
+#[derive(Clone, Copy)]
 pub struct ReadTotals {
     pub accepted: u64,
     pub served: u64,

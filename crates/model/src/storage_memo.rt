@@ -3,7 +3,7 @@ ghost use Rattle.std.specs.Prelude.{◌≡◌};
 ghost use Rattle.model.specs.Slots.{at, identified};
 
 // A 20-byte address as three words, the highest first.
-#[derive(Drop)]
+#[derive(Clone, Copy)]
 pub struct Address {
     pub w0: u32,
     pub w1: u64,
@@ -11,7 +11,7 @@ pub struct Address {
 }
 
 // A 32-byte number as four words, the highest first.
-#[derive(Drop)]
+#[derive(Clone, Copy)]
 pub struct U256 {
     pub w0: u64,
     pub w1: u64,
@@ -23,14 +23,14 @@ pub struct U256 {
 pub type B256 = U256;
 
 // The canonical hash of an anchor's block, where the caller has it.
-#[derive(Drop)]
+#[derive(Clone, Copy)]
 pub enum BlockHash {
     Unknown,
     Known(B256),
 }
 
 // The block that values are read at.
-#[derive(Drop)]
+#[derive(Clone, Copy)]
 pub struct ReadAnchor {
     pub number: u64,
     pub hash: BlockHash,

@@ -11,62 +11,62 @@ use model::delta_snapshot::Slot;
 use model::storage_memo::{ReadAnchor, U256};
 
 // A place in a call list.
-#[derive(Drop)]
+#[derive(Clone, Copy)]
 pub struct Cursor {
     pub at: usize,
 }
 
 // A number that was read, and the place after it; or a fault and its place.
-#[derive(Drop)]
+#[derive(Clone, Copy)]
 pub enum Number {
     Value(u64, Cursor),
     Fault(u64, Cursor),
 }
 
 // A form byte that was read: whether it is 1.
-#[derive(Drop)]
+#[derive(Clone, Copy)]
 pub enum Form {
     Value(bool, Cursor),
     Fault(u64, Cursor),
 }
 
 // A 32-byte number that was read.
-#[derive(Drop)]
+#[derive(Clone, Copy)]
 pub enum Word {
     Value(U256, Cursor),
     Fault(u64, Cursor),
 }
 
 // A slot that was read.
-#[derive(Drop)]
+#[derive(Clone, Copy)]
 pub enum SlotRead {
     Value(Slot, Cursor),
     Fault(u64, Cursor),
 }
 
 // An anchor that was read.
-#[derive(Drop)]
+#[derive(Clone, Copy)]
 pub enum AnchorRead {
     Value(ReadAnchor, Cursor),
     Fault(u64, Cursor),
 }
 
 // Entries that stand one after the other: the place of the first, and how many.
-#[derive(Drop)]
+#[derive(Clone, Copy)]
 pub struct Span {
     pub start: usize,
     pub count: usize,
 }
 
 // Entries that were passed.
-#[derive(Drop)]
+#[derive(Clone, Copy)]
 pub enum SpanRead {
     Value(Span, Cursor),
     Fault(u64, Cursor),
 }
 
 // The place past members of an answer.
-#[derive(Drop)]
+#[derive(Clone, Copy)]
 pub enum Passed {
     Value(Cursor),
     Fault(u64, Cursor),

@@ -16,7 +16,7 @@ use model::delta_snapshot::{Content, Held, Slot};
 use model::storage_memo::{Address, U256};
 
 // How a slot stands to another.
-#[derive(Drop)]
+#[derive(Clone, Copy)]
 pub enum Order {
     Less,
     Equal,
@@ -24,7 +24,7 @@ pub enum Order {
 }
 
 // The place of a slot's record, or where it would go.
-#[derive(Drop)]
+#[derive(Clone, Copy)]
 pub enum Found {
     At(usize),
     Absent(usize),

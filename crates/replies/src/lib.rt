@@ -4,14 +4,14 @@ use model::read_hub::CarryOutcome;
 use model::storage_memo::U256;
 
 // An open's reply.
-#[derive(Drop)]
+#[derive(Clone, Copy)]
 pub enum OpenReply {
     Refused(u64),
     Opened,
 }
 
 // An install's reply: whether the anchor was installed already.
-#[derive(Drop)]
+#[derive(Clone, Copy)]
 pub enum InstallReply {
     Refused(u64),
     Same,
@@ -19,7 +19,7 @@ pub enum InstallReply {
 }
 
 // A look's or a get's reply: none, or the value.
-#[derive(Drop)]
+#[derive(Clone, Copy)]
 pub enum LookReply {
     Refused(u64),
     Nothing,
@@ -27,14 +27,14 @@ pub enum LookReply {
 }
 
 // A put's reply.
-#[derive(Drop)]
+#[derive(Clone, Copy)]
 pub enum PutReply {
     Refused(u64),
     Stored,
 }
 
 // How many writes were applied, how many of them overwrote, and how many were skipped (`AppliedWrites`).
-#[derive(Drop)]
+#[derive(Clone, Copy)]
 pub struct WriteCounts {
     pub applied: u64,
     pub overwritten: u64,
@@ -42,7 +42,7 @@ pub struct WriteCounts {
 }
 
 // An advance's report; the slots written are in its output.
-#[derive(Drop)]
+#[derive(Clone, Copy)]
 pub struct DeltaReport {
     pub outcome: CarryOutcome,
     pub writes: WriteCounts,
@@ -52,14 +52,14 @@ pub struct DeltaReport {
 }
 
 // An advance's reply: its report.
-#[derive(Drop)]
+#[derive(Clone, Copy)]
 pub enum AdvanceReply {
     Refused(u64),
     Advanced(DeltaReport),
 }
 
 // A read's reply: the value, or the slot's waiters.
-#[derive(Drop)]
+#[derive(Clone, Copy)]
 pub enum ReadReply {
     Refused(u64),
     Value(U256),
@@ -67,14 +67,14 @@ pub enum ReadReply {
 }
 
 // A take's reply: the number of slots listed.
-#[derive(Drop)]
+#[derive(Clone, Copy)]
 pub enum TakeReply {
     Refused(u64),
     Listed(u64),
 }
 
 // An answer's reply: members, member errors and waiters woken.
-#[derive(Drop)]
+#[derive(Clone, Copy)]
 pub enum AnswerReply {
     Refused(u64),
     Answered {

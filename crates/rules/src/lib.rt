@@ -69,7 +69,7 @@ fn rules(s: &[u8], n: usize, top: usize, retention: Retention, number: u64, ix: 
 }
 
 // What a check came to: the rules hold, one is broken, or it is not found out.
-#[derive(Drop)]
+#[derive(Clone, Copy)]
 enum Verdict {
     Hold,
     Broken,

@@ -17,7 +17,7 @@ use records::Found;
 use replies::WriteCounts;
 
 // What a write does: sets a served slot, whose last use is kept; sets one that is not served; nothing.
-#[derive(Drop)]
+#[derive(Clone, Copy)]
 pub enum WriteKind {
     Overwrite(u64),
     New,
@@ -25,14 +25,14 @@ pub enum WriteKind {
 }
 
 // What applying a write came to: no room for its record, or what it did.
-#[derive(Drop)]
+#[derive(Clone, Copy)]
 pub enum Applied {
     Full,
     Done(WriteKind),
 }
 
 // What the writes of a list came to: no room for the records that they leave, or their counts.
-#[derive(Drop)]
+#[derive(Clone, Copy)]
 pub enum Seeded {
     Full,
     Done(WriteCounts),

@@ -2,4 +2,3 @@
 pub mod Bounds
 pub mod Places
 pub mod InStore
-pub mod Loans
