@@ -20,13 +20,6 @@ use Rattle.bal_entries.proofs.Filling.{length_put}
 use Rattle.bal_entries.proofs.ReadWalk.{no_reads_seeded, read_seeded}
 use Rattle.bal_entries.proofs.seed_reads.Goals as goal
 
--- The read that a turn walks, and the output after it.
-abbrev the-read : tie.Joined1 invariant-loop decreases-loop → Slot
-the-read c =
-    let l = c.before.before.loop in
-    let a = c.before.before.before.before.before.args in
-    record { address = a.address; index = u256_at 0 (drop ((a.from + l.i) * 32) a.reads.now) }
-
 pub loop-i-init : goal.loop-i-init
 loop-i-init c =
     let a = c.args in
@@ -61,18 +54,21 @@ loop-i-smaller c = omega arith
 
 pub loop-i-preserved : goal.loop-i-preserved
 loop-i-preserved c =
-    let out_is : let l = c.loop-i in let a = c.args in
-    c.if-found-i.out ≡ cond (ltb (a.found + l.i) a.most) (placed ((a.found + l.i) * 52) (slot_bytes (the-read c)) l.out) l.out = let l = c.loop-i in
+    let the-read : Slot = let l = c.loop-i in
     let a = c.args in
-    let put : Bool → List ℕ = λ t. cond t (placed ((a.found + l.i) * 52) (slot_bytes (the-read c)) l.out) l.out in
+    record { address = a.address; index = u256_at 0 (drop ((a.from + l.i) * 32) a.reads.now) } in
+    let out_is : let l = c.loop-i in let a = c.args in
+    c.if-found-i.out ≡ cond (ltb (a.found + l.i) a.most) (placed ((a.found + l.i) * 52) (slot_bytes (the-read)) l.out) l.out = let l = c.loop-i in
+    let a = c.args in
+    let put : Bool → List ℕ = λ t. cond t (placed ((a.found + l.i) * 52) (slot_bytes (the-read)) l.out) l.out in
     ⊎_elim
-    (λ w. w.6 ∙ w.3.ensures ∙ ap (λ (x : U256). placed ((a.found + l.i) * 52) (slot_bytes (record { address = a.address; index = x })) l.out) (w.1.ensures ∙ u256_first ((a.from + l.i) * 32) a.reads.now) ∙ sym (ap put (lt-ltb (a.found + l.i) a.most w.0.taken)))
-    (λ w. w.1 ∙ sym (ap put (le-ltb (a.found + l.i) a.most w.0.left)))
-    c.if-found-i.branch in
+    (λ w. w.out-is ∙ w.write_slot.ensures ∙ ap (λ (x : U256). placed ((a.found + l.i) * 52) (slot_bytes (record { address = a.address; index = x })) l.out) (w.read_u256-index.ensures ∙ u256_first ((a.from + l.i) * 32) a.reads.now) ∙ sym (ap put (lt-ltb (a.found + l.i) a.most w.if-found-i.true)))
+    (λ w. w.out-is ∙ sym (ap put (le-ltb (a.found + l.i) a.most w.if-found-i.false)))
+    c.if-found-i.branch-raw in
     let l = c.loop-i in
     let a = c.args in (
       search rules,
-      ap length (out_is) ∙ length_put (ltb (a.found + l.i) a.most) ((a.found + l.i) * 52) (slot_bytes (the-read c)) l.out (omega (arith, l.invariant.1, length_slot (the-read c))) ∙ l.invariant.1,
+      ap length (out_is) ∙ length_put (ltb (a.found + l.i) a.most) ((a.found + l.i) * 52) (slot_bytes (the-read)) l.out (omega (arith, l.invariant.1, length_slot (the-read))) ∙ l.invariant.1,
       read_seeded a.address a.reads.now a.most a.from a.found a.out.now l.i l.out c.if-found-i.out (omega arith) l.invariant.2 (out_is),
     )
 

@@ -21,12 +21,6 @@ use Rattle.bal_entries.proofs.Filling.{length_put}
 use Rattle.bal_entries.proofs.SlotWalk.{changes_here, unchanged, changed}
 use Rattle.bal_entries.proofs.seed_slot.Goals as goal
 
-abbrev write_at : tie.After-known-told → U256 → Write
-write_at k x = record { slot = record { address = k.before.before.before.before.before.before.before.before.args.address; index = x }; value = k.before.value.given.0.0 }
-
-abbrev the-write : tie.After-known-told → Write
-the-write k = let a = k.before.before.before.before.before.before.before.before.args in write_at k (u256_at 0 (drop (a.from.slot * 40) a.slots.now))
-
 pub final_change-requires : goal.final_change-requires
 final_change-requires c =
     let count_is : let a = c.args in
@@ -67,30 +61,34 @@ overflow_add-result-3 c =
 
 pub shape_of-out : goal.shape_of-out
 shape_of-out c =
+    let write_at : U256 → Write = λ x. record { slot = record { address = c.args.address; index = x }; value = c.in-Changed.value } in
+    let the-write : Write = let a = c.args in write_at (u256_at 0 (drop (a.from.slot * 40) a.slots.now)) in
     let out_is : let a = c.args in
-    c.if-found-most.out ≡ cond (ltb a.from.found a.most) (placed (a.from.found * 84) (write_bytes (the-write c)) a.out.now) a.out.now = let a = c.args in
-    let put : Bool → List ℕ = λ t. cond t (placed (a.from.found * 84) (write_bytes (the-write c)) a.out.now) a.out.now in
+    c.if-found-most.out ≡ cond (ltb a.from.found a.most) (placed (a.from.found * 84) (write_bytes (the-write)) a.out.now) a.out.now = let a = c.args in
+    let put : Bool → List ℕ = λ t. cond t (placed (a.from.found * 84) (write_bytes (the-write)) a.out.now) a.out.now in
     ⊎_elim
-    (λ w. w.6 ∙ w.3.ensures ∙ ap (λ (x : U256). placed (a.from.found * 84) (write_bytes (write_at c x)) a.out.now) (w.1.ensures ∙ u256_first (a.from.slot * 40) a.slots.now) ∙ sym (ap put (lt-ltb a.from.found a.most w.0.taken)))
-    (λ w. w.1 ∙ sym (ap put (le-ltb a.from.found a.most w.0.left)))
-    c.if-found-most.branch in
+    (λ w. w.out-is ∙ w.write_write.ensures ∙ ap (λ (x : U256). placed (a.from.found * 84) (write_bytes (write_at x)) a.out.now) (w.read_u256-index.ensures ∙ u256_first (a.from.slot * 40) a.slots.now) ∙ sym (ap put (lt-ltb a.from.found a.most w.if-found-most.true)))
+    (λ w. w.out-is ∙ sym (ap put (le-ltb a.from.found a.most w.if-found-most.false)))
+    c.if-found-most.branch-raw in
     let here : c.args.from.slot < length c.args.slots.now / 40 = omega arith in
     let a = c.args in
-    ap length (out_is) ∙ length_put (ltb a.from.found a.most) (a.from.found * 84) (write_bytes (the-write c)) a.out.now (omega (arith, length_write_bytes (the-write c), here))
+    ap length (out_is) ∙ length_put (ltb a.from.found a.most) (a.from.found * 84) (write_bytes (the-write)) a.out.now (omega (arith, length_write_bytes (the-write), here))
 
 pub returns : goal.returns
 returns c =
     let here : c.args.from.slot < length c.args.slots.now / 40 = omega arith in
     let count_is : let a = c.args in
     c.read_u64-count.result ≡ number_at 32 8 (drop (a.from.slot * 40) a.slots.now) = let a = c.args in c.read_u64-count.ensures ∙ number_in 32 (a.from.slot * 40) 8 a.slots.now in
-    let value_is : c.final_change.result ≡ Changed c.value-1.given.0.0 = search rules in
+    let value_is : c.final_change.result ≡ Changed c.in-Changed.value = search rules in
+    let write_at : U256 → Write = λ x. record { slot = record { address = c.args.address; index = x }; value = c.in-Changed.value } in
+    let the-write : Write = let a = c.args in write_at (u256_at 0 (drop (a.from.slot * 40) a.slots.now)) in
     let out_is : let a = c.args in
-    c.if-found-most.out ≡ cond (ltb a.from.found a.most) (placed (a.from.found * 84) (write_bytes (the-write c)) a.out.now) a.out.now = let a = c.args in
-    let put : Bool → List ℕ = λ t. cond t (placed (a.from.found * 84) (write_bytes (the-write c)) a.out.now) a.out.now in
+    c.if-found-most.out ≡ cond (ltb a.from.found a.most) (placed (a.from.found * 84) (write_bytes (the-write)) a.out.now) a.out.now = let a = c.args in
+    let put : Bool → List ℕ = λ t. cond t (placed (a.from.found * 84) (write_bytes (the-write)) a.out.now) a.out.now in
     ⊎_elim
-    (λ w. w.6 ∙ w.3.ensures ∙ ap (λ (x : U256). placed (a.from.found * 84) (write_bytes (write_at c x)) a.out.now) (w.1.ensures ∙ u256_first (a.from.slot * 40) a.slots.now) ∙ sym (ap put (lt-ltb a.from.found a.most w.0.taken)))
-    (λ w. w.1 ∙ sym (ap put (le-ltb a.from.found a.most w.0.left)))
-    c.if-found-most.branch in
+    (λ w. w.out-is ∙ w.write_write.ensures ∙ ap (λ (x : U256). placed (a.from.found * 84) (write_bytes (write_at x)) a.out.now) (w.read_u256-index.ensures ∙ u256_first (a.from.slot * 40) a.slots.now) ∙ sym (ap put (lt-ltb a.from.found a.most w.if-found-most.true)))
+    (λ w. w.out-is ∙ sym (ap put (le-ltb a.from.found a.most w.if-found-most.false)))
+    c.if-found-most.branch-raw in
     let a = c.args in
     changed a.address a.slots.now a.changes.now a.most a.from (here) c.requires.changes_left c.read_u64-count.result c.final_change.result (count_is) c.final_change.ensures
-    c.value-1.given.0.0 a.out.now c.if-found-most.out (value_is) (out_is)
+    c.in-Changed.value a.out.now c.if-found-most.out (value_is) (out_is)

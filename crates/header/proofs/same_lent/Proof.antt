@@ -16,7 +16,7 @@ use Rattle.header.proofs.same_lent.Statement.{statement}
 use Rattle.header.proofs.same_lent.Tie as tie
 
 read-u64-requires : tie.Need-read-u64-requires
-read-u64-requires c κs = omega (arith, header_room _ c.before.before.requires.0.is_IsStore)
+read-u64-requires c κs = omega (arith, header_room _ c.before.before.requires.0.is_store)
 
 returns : tie.Need-returns
 returns c =
@@ -26,7 +26,7 @@ returns c =
     lent_differs a.hash.now a.number (generation_of a.s.now).anchor (c.before.read_u64.ensures ∙ w.number_word) c.if1.true
 
 read-u64-requires-2 : tie.Need-read-u64-requires-2
-read-u64-requires-2 c κs = omega (arith, header_room _ c.before.before.before.before.requires.0.is_IsStore)
+read-u64-requires-2 c κs = omega (arith, header_room _ c.before.before.before.before.requires.0.is_store)
 
 returns-2 : tie.Need-returns-2
 returns-2 c =
@@ -53,7 +53,7 @@ returns-3 c =
 same-words-requires : tie.Need-same-words-requires
 same-words-requires c κs =
     let st = c.before.before.before.before.before.before.before in
-    (omega (arith, header_room _ st.requires.0.is_IsStore), st.requires.1 c.before.if2.false)
+    (omega (arith, header_room _ st.requires.0.is_store), st.requires.1 c.before.if2.false)
 
 returns-4 : tie.Need-returns-4
 returns-4 c =

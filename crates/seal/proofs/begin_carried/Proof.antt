@@ -8,7 +8,7 @@ use Rattle.seal.proofs.begin_carried.Statement.{statement}
 use Rattle.seal.proofs.begin_carried.Tie as tie
 
 read-u64-requires : tie.Need-read-u64-requires
-read-u64-requires c κs = omega (arith, header_room _ c.before.before.requires.0.is_IsStore)
+read-u64-requires c κs = omega (arith, header_room _ c.before.before.requires.0.is_store)
 
 layers-requires : tie.Need-layers-requires
 layers-requires c κs = search rules

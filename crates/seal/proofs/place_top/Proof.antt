@@ -13,7 +13,7 @@ use Rattle.seal.proofs.place_top.Statement.{statement}
 use Rattle.seal.proofs.place_top.Tie as tie
 
 read-u64-requires : tie.Need-read-u64-requires
-read-u64-requires c κs = omega (arith, header_room _ c.before.before.requires.0.is_IsStore)
+read-u64-requires c κs = omega (arith, header_room _ c.before.before.requires.0.is_store)
 
 top-start-requires : tie.Need-top-start-requires
 top-start-requires c κs = search rules

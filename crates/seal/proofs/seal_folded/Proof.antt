@@ -32,12 +32,12 @@ write-header-requires c κs = search rules
 sub-compact : tie.Need-overflow-sub-compact
 sub-compact c =
     let st = c.before.before.before.before.before.before.before.before.before.before.before in
-    omega (arith, header_room st.args.s.now st.requires.0.is_IsStore)
+    omega (arith, header_room st.args.s.now st.requires.0.is_store)
 
 part-compact-start : tie.Need-slice-bounds-compact-start
 part-compact-start c =
     let st = c.before.before.before.before.before.before.before.before.before.before.before in
-    omega (arith, header_room st.args.s.now st.requires.0.is_IsStore)
+    omega (arith, header_room st.args.s.now st.requires.0.is_store)
 
 part-compact-end : tie.Need-slice-bounds-compact-end
 part-compact-end c = search rules

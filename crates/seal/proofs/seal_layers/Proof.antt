@@ -14,10 +14,10 @@ use Rattle.seal.proofs.seal_layers.Statement.{statement}
 use Rattle.seal.proofs.seal_layers.Tie as tie
 
 read-u64-requires : tie.Need-read-u64-requires
-read-u64-requires c κs = omega (arith, header_room _ c.before.before.requires.0.is_IsStore)
+read-u64-requires c κs = omega (arith, header_room _ c.before.before.requires.0.is_store)
 
 read-u64-requires-2 : tie.Need-read-u64-requires-2
-read-u64-requires-2 c κs = omega (arith, header_room _ c.before.before.before.requires.0.is_IsStore)
+read-u64-requires-2 c κs = omega (arith, header_room _ c.before.before.before.requires.0.is_store)
 
 kept-layers-requires : tie.Need-kept-layers-requires
 kept-layers-requires c κs = search rules
@@ -31,13 +31,13 @@ few c =
 room : (c : tie.After-kept-layers) → records_offset + record_size * c.before.before.read_u64.result ≤ length c.before.before.before.before.before.args.s.now
 room c =
     let st = c.before.before.before.before.before in
-    let z : StoreBytes st.args.s.now _ = store_in st.args.s.now st.requires.0.is_IsStore in
+    let z : StoreBytes st.args.s.now _ = store_in st.args.s.now st.requires.0.is_store in
     omega (arith, c.before.before.read_u64.ensures, z.capacity_word, z.long)
 
 work-room : (c : tie.After-kept-layers) → records_offset + record_size * c.before.before.read_u64.result ≤ length c.before.before.before.before.before.args.work.now
 work-room c =
     let st = c.before.before.before.before.before in
-    let z : StoreBytes st.args.s.now _ = store_in st.args.s.now st.requires.0.is_IsStore in
+    let z : StoreBytes st.args.s.now _ = store_in st.args.s.now st.requires.0.is_store in
     omega (arith, c.before.before.read_u64.ensures, z.capacity_word, st.requires.2)
 
 write-header-requires : tie.Need-write-header-requires

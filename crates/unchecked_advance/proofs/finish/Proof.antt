@@ -45,7 +45,7 @@ read-u64-requires : tie.Need-read-u64-requires
 read-u64-requires c κs =
     let sd = c.before.before.before.before.before.before.before in
     let st = sd.before.before.before.before.before.before.before.before.before.before.before in
-    omega (arith, header_room st.args.s.now st.requires.0.is_IsStore)
+    omega (arith, header_room st.args.s.now st.requires.0.is_store)
 
 -- The size of the store.
 fits : (c : tie.After-read-u64) →

@@ -15,10 +15,10 @@ awaiting-count-requires : tie.Need-awaiting-count-requires
 awaiting-count-requires c κs = search rules
 
 sub-all-taken : tie.Need-overflow-sub-all-taken
-sub-all-taken c = omega (arith, header_room _ c.before.before.before.requires.0.is_IsStore)
+sub-all-taken c = omega (arith, header_room _ c.before.before.before.requires.0.is_store)
 
 part-all-taken-start : tie.Need-slice-bounds-all-taken-start
-part-all-taken-start c = omega (arith, header_room _ c.before.before.before.requires.0.is_IsStore)
+part-all-taken-start c = omega (arith, header_room _ c.before.before.before.requires.0.is_store)
 
 part-all-taken-end : tie.Need-slice-bounds-all-taken-end
 part-all-taken-end c = search rules

@@ -7,10 +7,10 @@ use Rattle.unchecked_reads.proofs.has_space.Statement.{statement}
 use Rattle.unchecked_reads.proofs.has_space.Tie as tie
 
 read-u64-requires : tie.Need-read-u64-requires
-read-u64-requires c κs = omega (arith, header_room _ c.before.before.requires.0.is_IsStore)
+read-u64-requires c κs = omega (arith, header_room _ c.before.before.requires.0.is_store)
 
 read-u64-requires-2 : tie.Need-read-u64-requires-2
-read-u64-requires-2 c κs = omega (arith, header_room _ c.before.before.before.requires.0.is_IsStore)
+read-u64-requires-2 c κs = omega (arith, header_room _ c.before.before.before.requires.0.is_store)
 
 sub-free : tie.Need-overflow-sub-free
 sub-free c =

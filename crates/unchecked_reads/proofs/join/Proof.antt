@@ -19,10 +19,10 @@ awaiting-count-requires : tie.Need-awaiting-count-requires
 awaiting-count-requires c κs = search rules
 
 sub-join : tie.Need-overflow-sub-join
-sub-join c = omega (arith, header_room _ c.before.before.before.requires.0.is_IsStore)
+sub-join c = omega (arith, header_room _ c.before.before.before.requires.0.is_store)
 
 part-join-start : tie.Need-slice-bounds-join-start
-part-join-start c = omega (arith, header_room _ c.before.before.before.requires.0.is_IsStore)
+part-join-start c = omega (arith, header_room _ c.before.before.before.requires.0.is_store)
 
 part-join-end : tie.Need-slice-bounds-join-end
 part-join-end c = search rules
@@ -41,7 +41,7 @@ write-u64-requires c κs =
     let t = c.before.before.before in
     let st = t.before.before.before.before.before in
     let s = st.args.s.now in
-    omega (arith, same_len_mid awaiting_offset (length s - awaiting_offset) s t.join.new.0 t.join.auto.0, header_room s st.requires.0.is_IsStore)
+    omega (arith, same_len_mid awaiting_offset (length s - awaiting_offset) s t.join.new.0 t.join.auto.0, header_room s st.requires.0.is_store)
 
 same_length : tie.Need-same-length
 same_length c = search rules

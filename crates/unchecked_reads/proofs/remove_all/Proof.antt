@@ -21,10 +21,10 @@ awaiting-count-requires : tie.Need-awaiting-count-requires
 awaiting-count-requires c κs = search rules
 
 sub-remove-all : tie.Need-overflow-sub-remove-all
-sub-remove-all c = omega (arith, header_room _ c.before.before.before.before.requires.0.is_IsStore)
+sub-remove-all c = omega (arith, header_room _ c.before.before.before.before.requires.0.is_store)
 
 part-remove-all-start : tie.Need-slice-bounds-remove-all-start
-part-remove-all-start c = omega (arith, header_room _ c.before.before.before.before.requires.0.is_IsStore)
+part-remove-all-start c = omega (arith, header_room _ c.before.before.before.before.requires.0.is_store)
 
 part-remove-all-end : tie.Need-slice-bounds-remove-all-end
 part-remove-all-end c = search rules
@@ -43,7 +43,7 @@ write-u64-requires c κs =
     let t = c.before.before.before in
     let st = t.before.before.before.before.before.before in
     let s = st.args.s.now in
-    omega (arith, same_len_mid awaiting_offset (length s - awaiting_offset) s t.remove-all.new.0 t.remove-all.auto.0, header_room s st.requires.0.is_IsStore)
+    omega (arith, same_len_mid awaiting_offset (length s - awaiting_offset) s t.remove-all.new.0 t.remove-all.auto.0, header_room s st.requires.0.is_store)
 
 same_length : tie.Need-same-length
 same_length c = search rules

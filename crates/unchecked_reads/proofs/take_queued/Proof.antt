@@ -18,10 +18,10 @@ awaiting-count-requires : tie.Need-awaiting-count-requires
 awaiting-count-requires c κs = search rules
 
 sub-take-queued : tie.Need-overflow-sub-take-queued
-sub-take-queued c = omega (arith, header_room _ c.before.before.before.before.requires.0.is_IsStore)
+sub-take-queued c = omega (arith, header_room _ c.before.before.before.before.requires.0.is_store)
 
 part-take-queued-start : tie.Need-slice-bounds-take-queued-start
-part-take-queued-start c = omega (arith, header_room _ c.before.before.before.before.requires.0.is_IsStore)
+part-take-queued-start c = omega (arith, header_room _ c.before.before.before.before.requires.0.is_store)
 
 part-take-queued-end : tie.Need-slice-bounds-take-queued-end
 part-take-queued-end c = search rules

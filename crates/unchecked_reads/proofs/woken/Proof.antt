@@ -15,10 +15,10 @@ awaiting-count-requires : tie.Need-awaiting-count-requires
 awaiting-count-requires c κs = search rules
 
 sub-woken : tie.Need-overflow-sub-woken
-sub-woken c = omega (arith, header_room _ c.before.before.before.requires.0.is_IsStore)
+sub-woken c = omega (arith, header_room _ c.before.before.before.requires.0.is_store)
 
 part-woken-start : tie.Need-slice-bounds-woken-start
-part-woken-start c = omega (arith, header_room _ c.before.before.before.requires.0.is_IsStore)
+part-woken-start c = omega (arith, header_room _ c.before.before.before.requires.0.is_store)
 
 part-woken-end : tie.Need-slice-bounds-woken-end
 part-woken-end c = search rules

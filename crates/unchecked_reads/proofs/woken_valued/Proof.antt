@@ -15,10 +15,10 @@ awaiting-count-requires : tie.Need-awaiting-count-requires
 awaiting-count-requires c κs = search rules
 
 sub-woken-valued : tie.Need-overflow-sub-woken-valued
-sub-woken-valued c = omega (arith, header_room _ c.before.before.before.requires.0.is_IsStore)
+sub-woken-valued c = omega (arith, header_room _ c.before.before.before.requires.0.is_store)
 
 part-woken-valued-start : tie.Need-slice-bounds-woken-valued-start
-part-woken-valued-start c = omega (arith, header_room _ c.before.before.before.requires.0.is_IsStore)
+part-woken-valued-start c = omega (arith, header_room _ c.before.before.before.requires.0.is_store)
 
 part-woken-valued-end : tie.Need-slice-bounds-woken-valued-end
 part-woken-valued-end c = search rules

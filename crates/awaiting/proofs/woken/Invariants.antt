@@ -1,0 +1,15 @@
+-- `awaiting::woken` meets its contract.
+use mathlib.Core.Path.{◌≡◌}
+use Prim.Native.Nat.{◌+◌, ◌≤◌, ◌-◌}
+use lib.ListN.{length, drop}
+use Rattle.model.specs.Reads.{woken}
+use Rattle.image.specs.Area.{pending_of}
+use Rattle.awaiting.specs.Awaiting.{entry_slots}
+use Rattle.awaiting.proofs.woken.Given as goal
+
+-- `awaiting::woken` meets its contract.
+abbrev pub invariant-loop-at : goal.invariant-loop-at
+invariant-loop-at l = (l.at ≤ length l.list) × (l.sum + woken (entry_slots l.stride (drop l.at l.list)) (pending_of l.n l.s) ≡ woken (entry_slots l.stride l.list) (pending_of l.n l.s))
+
+abbrev pub decreases-loop-at : goal.decreases-loop-at
+decreases-loop-at l = length l.list - l.at

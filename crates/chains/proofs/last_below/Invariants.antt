@@ -1,0 +1,11 @@
+-- `chains::last_below` meets its contract.
+use Prim.Native.Nat.{◌-◌}
+use Rattle.chains.proofs.ChainLaws.{Walking}
+use Rattle.chains.proofs.last_below.Given as goal
+
+-- `chains::last_below` meets its contract.
+abbrev pub invariant-loop-p : goal.invariant-loop-p
+invariant-loop-p l = Walking l.s l.i l.p
+
+abbrev pub decreases-loop-p : goal.decreases-loop-p
+decreases-loop-p l = l.left

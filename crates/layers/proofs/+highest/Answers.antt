@@ -1,0 +1,65 @@
+-- `layers::highest` meets its contract. Assumes nothing.
+use Prim.Native.Nat.{ℕ, ◌+◌, ◌-◌, ◌<◌}
+use mathlib.Core.Path.{◌≡◌, sym, ap, ◌∙◌}
+use native.Mathlib.Omega.{arith}
+use Rattle.model.specs.Layers.{record_count}
+use Rattle.image.specs.Area.{layers_below}
+use Rattle.image.specs.Lent.{generation_of}
+use Rattle.layers.proofs.Search.{passed_start, passed_all, passed_empty, passed_highest, first_below, none_below}
+use borrow.Fn.Kinds.{In}
+use borrow.Fn.PlainCycle.{Measures, is, falls, and}
+use Rattle.layers.proofs.highest.Reads as highest
+use Rattle.layers.proofs.highest.Kinds as highest-kinds
+use Rattle.layers.proofs.+highest.Goals as goal
+
+abbrev μ-highest : Measures 1 highest-kinds.ps ℕ
+μ-highest κs a = a.1.0
+
+abbrev highest_at : ℕ → In 1 highest-kinds.ps
+highest_at t = and 1 highest-kinds.ps (is 1 highest-kinds.ps μ-highest t) highest.Pre
+
+abbrev highest-below : ℕ → In 1 highest-kinds.ps
+highest-below t = and 1 highest-kinds.ps (falls 1 highest-kinds.ps ◌<◌ μ-highest t) highest.Pre
+
+pub returns-then-k-eq0 : goal.returns-then-k-eq0
+returns-then-k-eq0 t c = let a = c.args in passed_all a.slot a.k a.k (generation_of a.s.now).base (passed_start _ _ _) c.if-k-eq0.true
+
+pub layer_place-place-requires : goal.layer_place-place-requires
+layer_place-place-requires t c =
+    let k = c.args.k in
+    let z : 0 < k = omega (arith, c.if-k-eq0.false) in
+    let e : k ≡ k - 1 + 1 = omega arith in
+    (c.requires.0, omega (arith, c.requires.1), c.layer_start-start.ensures, c.layer_start.ensures ∙ ap (λ (i : ℕ). record_count (layers_below i (generation_of c.args.s.now).base)) e)
+
+pub returns-then-start-eq0 : goal.returns-then-start-eq0
+returns-then-start-eq0 t c =
+    let a = c.args in
+    let z : 0 < a.k = omega (arith, c.if-k-eq0.false) in
+    let p = none_below a.s.now a.slot a.k a.k c.requires.0 (passed_start _ _ _) z c.requires.1 _ c.layer_place-place.ensures _ c.in_default.is in
+    passed_empty a.slot (a.k - 1) a.k (generation_of a.s.now).base p (sym c.layer_start-start.ensures ∙ c.if-start-eq0.true)
+
+pub highest-requires : goal.highest-requires
+highest-requires t c =
+    let z : 0 < c.args.k = omega (arith, c.if-k-eq0.false) in
+    (omega (arith, c.requires.0), (c.requires.0, omega (arith, c.requires.1)))
+
+pub returns-in_default : goal.returns-in_default
+returns-in_default t c =
+    let a = c.args in
+    let z : 0 < a.k = omega (arith, c.if-k-eq0.false) in
+    let p = none_below a.s.now a.slot a.k a.k c.requires.0 (passed_start _ _ _) z c.requires.1 _ c.layer_place-place.ensures _ c.in_default.is in
+    passed_highest c.highest.result a.slot (a.k - 1) a.k a.s.now p (omega arith) c.highest.ensures
+
+pub overflow_add-result : goal.overflow_add-result
+overflow_add-result t c =
+    let a = c.args in
+    let z : 0 < a.k = omega (arith, c.if-k-eq0.false) in
+    let f = first_below a.s.now a.slot a.k a.k c.requires.0 (passed_start _ _ _) z c.requires.1 _ c.layer_place-place.ensures _ _ c.layer_start-start.ensures c.in-At.is in
+    omega (arith, f.room)
+
+pub returns : goal.returns
+returns t c =
+    let a = c.args in
+    let z : 0 < a.k = omega (arith, c.if-k-eq0.false) in
+    let f = first_below a.s.now a.slot a.k a.k c.requires.0 (passed_start _ _ _) z c.requires.1 _ c.layer_place-place.ensures _ _ c.layer_start-start.ensures c.in-At.is in
+    (omega arith, f)

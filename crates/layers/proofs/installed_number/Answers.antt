@@ -1,0 +1,12 @@
+-- `layers::installed_number` meets its contract. Assumes nothing.
+use native.Mathlib.Omega.{arith}
+use mathlib.Core.Path.{◌∙◌}
+use Rattle.image.proofs.Lent.{generation_in}
+use Rattle.layers.proofs.Header.{header_room}
+use Rattle.layers.proofs.installed_number.Goals as goal
+
+pub read_u64-requires : goal.read_u64-requires
+read_u64-requires c = omega (arith, header_room _ c.requires.is_store)
+
+pub returns : goal.returns
+returns c = c.read_u64.ensures ∙ (generation_in _ c.requires).number_word
