@@ -1,0 +1,39 @@
+-- `bal_accounts::admit_account` meets its contract. Assumes nothing.
+use Prim.Native.Nat.{◌+◌, ◌/◌, ◌≤◌, ◌<◌}
+use native.Mathlib.Omega.{arith}
+use lib.ListN.{length}
+use Rattle.bal_accounts.proofs.AccountWalk.{slots_within, reads_within, admitted_seeded}
+use Rattle.bal_accounts.proofs.admit_account.Goals as goal
+
+pub seed_slots-spot-requires : goal.seed_slots-spot-requires
+seed_slots-spot-requires c =
+    let slots_left : let a = c.args in a.w.slot + c.read_account-account.result.slots ≤ length a.slots.now / 40 = let a = c.args in
+    slots_within a.accounts.now a.slots.now a.changes.now a.reads.now a.i a.w c.read_account-account.result c.read_account-account.ensures c.requires.0 c.requires.1 in
+    record { slots_left = slots_left; changes_left = c.requires.1.changes_are; found_before = c.requires.1.few_writes; room = c.requires.2 }
+
+pub seed_reads-requires : goal.seed_reads-requires
+seed_reads-requires c =
+    let reads_left : let a = c.args in a.w.read + c.read_account-account.result.reads ≤ length a.reads.now / 32 = let a = c.args in
+    reads_within a.accounts.now a.slots.now a.changes.now a.reads.now a.i a.w c.read_account-account.result c.read_account-account.ensures c.requires.0 c.requires.1 in
+    (reads_left, c.requires.1.few_reads, c.requires.3)
+
+pub overflow_add-result : goal.overflow_add-result
+overflow_add-result c =
+    let reads_left : let a = c.args in a.w.read + c.read_account-account.result.reads ≤ length a.reads.now / 32 = let a = c.args in
+    reads_within a.accounts.now a.slots.now a.changes.now a.reads.now a.i a.w c.read_account-account.result c.read_account-account.ensures c.requires.0 c.requires.1 in
+    let reads_small : c.args.w.read + c.read_account-account.result.reads < 18446744073709551616 = omega (arith, reads_left) in
+    omega (arith, reads_small)
+
+pub overflow_add-result-2 : goal.overflow_add-result-2
+overflow_add-result-2 c =
+    let reads_left : let a = c.args in a.w.read + c.read_account-account.result.reads ≤ length a.reads.now / 32 = let a = c.args in
+    reads_within a.accounts.now a.slots.now a.changes.now a.reads.now a.i a.w c.read_account-account.result c.read_account-account.ensures c.requires.0 c.requires.1 in
+    let reads_small : c.args.w.read + c.read_account-account.result.reads < 18446744073709551616 = omega (arith, reads_left) in
+    omega (arith, reads_small, c.requires.1.few_reads)
+
+pub returns : goal.returns
+returns c =
+    λ p e.
+    let a = c.args in
+    admitted_seeded a.accounts.now a.slots.now a.changes.now a.reads.now a.i a.w c.read_account-account.result c.read_account-account.ensures c.requires.0 c.requires.1
+    p a.max_writes a.max_reads c.seed_slots-spot.result a.writes_out.now _ a.reads_out.now _ e c.seed_slots-spot.ensures c.seed_reads.ensures

@@ -1,0 +1,11 @@
+-- `listing::anchor_same_line` meets its contract. Assumes nothing.
+use Rattle.call_list.specs.Listing.{ascii}
+use Rattle.listing.proofs.anchor_same_line.Goals as goal
+
+pub word_line-requires : goal.word_line-requires
+unfolding ascii
+word_line-requires c = c.requires
+
+pub returns : goal.returns
+unfolding ascii
+returns c = c.word_line.ensures

@@ -1,0 +1,11 @@
+-- `listing::answer_line` meets its contract. Assumes nothing.
+use Rattle.call_list.specs.Listing.{ascii}
+use Rattle.listing.proofs.answer_line.Goals as goal
+
+pub numbers_line-requires : goal.numbers_line-requires
+unfolding ascii
+numbers_line-requires c = c.requires
+
+pub returns : goal.returns
+unfolding ascii
+returns c = c.numbers_line.ensures

@@ -1,0 +1,20 @@
+-- `top::has_room` meets its contract. Assumes nothing.
+use native.Mathlib.Omega.{arith}
+use Rattle.layers.proofs.Header.{header_room}
+use Rattle.top.proofs.Rooms.{room_at, room_absent, room_fits}
+use Rattle.top.proofs.has_room.Goals as goal
+
+pub read_u64-requires : goal.read_u64-requires
+read_u64-requires c = omega (arith, header_room _ c.requires.is_store)
+
+pub overflow_add-result : goal.overflow_add-result
+overflow_add-result c = omega (arith, room_fits _ _ c.requires c.read_u64.ensures)
+
+pub read_u64-requires-in-Absent : goal.read_u64-requires-in-Absent
+read_u64-requires-in-Absent c = omega (arith, header_room _ c.requires.is_store)
+
+pub returns-in-At : goal.returns-in-At
+returns-in-At c = room_at _ _ _ c.requires c.in-At.is
+
+pub returns-in-Absent : goal.returns-in-Absent
+returns-in-Absent c = room_absent _ _ _ _ _ c.requires c.in-Absent.is c.read_u64.ensures c.read_u64-in-Absent.ensures
