@@ -86,7 +86,7 @@ module _ (a : Address) (p : AddressFits a) where
   unfolding final_change
   write_added i q each_none g = g
   write_added i q (each_more f each_none) g = each_more (record { slot_fits = record { address_fits = p; index_fits = q }; value_fits = f }) g
-  write_added i q (each_more f (each_more h hs)) g = write_added i q (each_more h hs) g
+  write_added i q (each_more f (each_more {x = y} h hs)) g = write_added i q (each_more {x = y} h hs) g
 
   written_fit : {ss : List SlotChanges} → Each ChangesFit ss → Each WriteFits (post_states a ss)
   unfolding post_states
