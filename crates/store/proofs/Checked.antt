@@ -1,11 +1,10 @@
 -- What the check of the bytes says: they are no store, and a call on a store is refused by 20, or they are one. What the check of an answer's flag bytes says.
 use Prim.Native.Nat.{ℕ}
 use mathlib.Core.Path.{◌≡◌, refl, sym, ap, subst, ◌∙◌}
-use mathlib.Core.Bool.{Bool, true, false, not, cond}
+use mathlib.Core.Bool.{Bool, true, false, cond}
 use mathlib.Core.List.{List}
 use mathlib.Core.Option.{some, none}
 use native.Mathlib.Omega.{arith}
-use borrow.Author.Tests.{not-true, not-false}
 use Rattle.model.specs.declared.storage_memo.ReadAnchor.{ReadAnchor}
 use Rattle.model.specs.Contents.{is_some}
 use Rattle.model.specs.Entries.{members_of, flags_known}
@@ -23,16 +22,16 @@ no_memory (some st) e = let z : ◌≡◌ {A = ℕ} 0 1 = cc in absurd (omega ar
 
 -- Of the check's answer.
 module _ (b : List ℕ) (r : Bool) (e : r ≡ is_some (decode b)) where
-  pub a_store : not r ≡ false → is_some (decode b) ≡ true
-  a_store t = sym e ∙ not-false r t
+  pub a_store : r ≡ true → is_some (decode b) ≡ true
+  a_store t = sym e ∙ t
 
   -- Bytes that are no store, with any areas lent.
-  module _ (c : StoreCall) (work_bytes output_entries : ℕ) (t : not r ≡ true) where
+  module _ (c : StoreCall) (work_bytes output_entries : ℕ) (t : r ≡ false) where
     abbrev lent : BytesCall
     lent = record { call = on_store c; work_bytes = work_bytes; output_entries = output_entries }
 
     pub refused_20 : bytes_step b lent ≡ record { bytes = b; answer = refuse 20 }
-    refused_20 = turned_down b none lent (no_memory (decode b) (sym e ∙ not-true r t)) 20 (no_store _ c)
+    refused_20 = turned_down b none lent (no_memory (decode b) (sym e ∙ t)) 20 (no_store _ c)
 
 -- What an advance's contract names: a refusal.
 pub advanced_none : {b out : List ℕ} {n : ℕ} {o : BytesResult} → o ≡ record { bytes = b; answer = refuse n } → AdvancedAs (Refused n) b out o out
@@ -43,10 +42,10 @@ module _ (b : List ℕ) (a : ReadAnchor) (m : List ℕ) (r : Bool) (e : r ≡ fl
   abbrev answering : BytesResult
   answering = bytes_step b (alone (on_store (at_anchor a (answer (members_of m)))))
 
-  pub unknown_flag : not r ≡ true → answer_step b a m ≡ record { bytes = b; answer = refuse 3 }
+  pub unknown_flag : r ≡ false → answer_step b a m ≡ record { bytes = b; answer = refuse 3 }
   unfolding answer_step
-  unknown_flag t = ap (λ (x : Bool). cond x answering (record { bytes = b; answer = refuse 3 })) (sym e ∙ not-true r t)
+  unknown_flag t = ap (λ (x : Bool). cond x answering (record { bytes = b; answer = refuse 3 })) (sym e ∙ t)
 
-  pub known_flags : not r ≡ false → answer_step b a m ≡ answering
+  pub known_flags : r ≡ true → answer_step b a m ≡ answering
   unfolding answer_step
-  known_flags t = ap (λ (x : Bool). cond x answering (record { bytes = b; answer = refuse 3 })) (sym e ∙ not-false r t)
+  known_flags t = ap (λ (x : Bool). cond x answering (record { bytes = b; answer = refuse 3 })) (sym e ∙ t)
