@@ -21,16 +21,19 @@ same_place : (list : List ℕ) (m n : ℕ) → m ≤ length list → n ≤ lengt
 same_place list m n h k e = omega (arith, length-drop m list, length-drop n list, ap length e)
 
 -- The calls between two places.
-calls_once : {list : List ℕ} {from next : ℕ} {cs ds : List ListedCall} → CallsTo list from next cs → CallsTo list from next ds → cs ≡ ds
-calls_once no_call no_call = refl
-calls_once no_call (call_then e h k u) = absurd (omega (arith, calls_forward u))
-calls_once (call_then e h k u) no_call = absurd (omega (arith, calls_forward u))
-calls_once {list} {from} {next} (call_then {at = at} {c = c} {cs = cs} e h k u) (call_then {at = at'} {c = c'} {cs = ds} e' h' k' v) =
-    let p : parsed c (drop at list) ≡ parsed c' (drop at' list) = sym e ∙ e' in
+calls_to : {list : List ℕ} {from next next' : ℕ} {cs ds : List ListedCall} → CallsTo list from next cs → CallsTo list from next' ds → next ≡ next' → cs ≡ ds
+calls_to no_call no_call p = refl
+calls_to no_call (call_then e h k u) p = absurd (omega (arith, calls_forward u))
+calls_to (call_then e h k u) no_call p = absurd (omega (arith, calls_forward u))
+calls_to {list} {from} {next} {next'} (call_then {at = at} {c = c} {cs = cs} e h k u) (call_then {at = at'} {c = c'} {cs = ds} e' h' k' v) p =
+    let q0 : parsed c (drop at list) ≡ parsed c' (drop at' list) = sym e ∙ e' in
     let q : drop at list ≡ drop at' list = cc in
     let s : c ≡ c' = cc in
     let r : at' ≡ at = sym (same_place list at at' k k' q) in
-    ap₂ (λ (x : ListedCall) (y : List ListedCall). x ∷ y) s (calls_once u (subst (λ (x : ℕ). CallsTo list x next ds) r v))
+    ap₂ (λ (x : ListedCall) (y : List ListedCall). x ∷ y) s (calls_to u (subst (λ (x : ℕ). CallsTo list x next' ds) r v) p)
+
+calls_once : {list : List ℕ} {from next : ℕ} {cs ds : List ListedCall} → CallsTo list from next cs → CallsTo list from next ds → cs ≡ ds
+calls_once u v = calls_to u v refl
 
 -- The rest of a run.
 module _ {w e : ℕ} {list : List ℕ} {from next : ℕ} {end : Option ℕ} {b out : List ℕ} {m n : ℕ} {a o a' o' : List ℕ} (u : RunTo w e list from next end m b out a o) (v : RunTo w e list from next end n b out a' o') where
