@@ -3,7 +3,7 @@ use Prim.Native.Nat.{ℕ, ◌≤◌, ◌<◌}
 use mathlib.Core.Path.{◌≡◌, refl, sym, ap, subst, ◌∙◌}
 use mathlib.Core.Bool.{Bool, true, false, not, cond}
 use mathlib.Core.List.{List}
-use borrow.Author.Tests.{not-true, not-false, lt-leb, le-leb}
+use borrow.Author.Tests.{lt-leb, le-leb}
 use Rattle.model.specs.Refusals.{Answer, refuse}
 use Rattle.image.specs.Image.{BytesResult}
 use Rattle.image.specs.Output.{output_after}
@@ -21,11 +21,11 @@ use Rattle.lent_calls.proofs.Giving.{refused_gives}
 
 -- The test of the arguments: they do not fit, or they do.
 module _ {r fits : Bool} (e : r ≡ fits) where
-  pub unfit : not r ≡ true → fits ≡ false
-  unfit t = sym e ∙ not-true r t
+  pub unfit : r ≡ false → fits ≡ false
+  unfit t = sym e ∙ t
 
-  pub fit : not r ≡ false → fits ≡ true
-  fit t = sym e ∙ not-false r t
+  pub fit : r ≡ true → fits ≡ true
+  fit t = sym e ∙ t
 
 -- A call with arguments that do not fit.
 module _ (b reply : List ℕ) (o : BytesResult) {fits : Bool} (f : fits ≡ false) where

@@ -5,7 +5,6 @@ use mathlib.Core.Bool.{Bool, true, false, not}
 use mathlib.Core.List.{List}
 use mathlib.Core.Option.{Option, some, none}
 use native.Mathlib.Omega.{arith}
-use borrow.Author.Tests.{not-true, not-false}
 use lib.ListN.{length}
 use Rattle.layout.specs.Layout.{ends_offset}
 use Rattle.model.specs.declared.read_hub.ReadTotals.{ReadTotals}
@@ -38,11 +37,11 @@ no_store (some st) e = let z : ◌≡◌ {A = ℕ} 0 1 = cc in absurd (omega ari
 
 -- Of the test whether a generation is installed.
 module _ (b : List ℕ) (e : IsStore b) {r : Bool} (q : r ≡ is_some (store_of b).installed) where
-  pub none_installed : not r ≡ true → totals_given (decode b) ≡ refused_by 21
-  none_installed t = ap (λ (m : Memory). totals_given m) e ∙ no_generation (store_of b).installed (sym q ∙ not-true r t)
+  pub none_installed : r ≡ false → totals_given (decode b) ≡ refused_by 21
+  none_installed t = ap (λ (m : Memory). totals_given m) e ∙ no_generation (store_of b).installed (sym q ∙ t)
 
-  pub one_installed : not r ≡ false → {x : ReadTotals} → x ≡ totals_of b → totals_given (decode b) ≡ accepted (totals_words x)
+  pub one_installed : r ≡ true → {x : ReadTotals} → x ≡ totals_of b → totals_given (decode b) ≡ accepted (totals_words x)
   one_installed t p =
       ap (λ (m : Memory). totals_given m) e
-      ∙ ap installed_totals (installs_some b e (sym q ∙ not-false r t)).installs
+      ∙ ap installed_totals (installs_some b e (sym q ∙ t)).installs
       ∙ ap (λ (y : ReadTotals). accepted (totals_words y)) (sym (p ∙ totals_read b))
