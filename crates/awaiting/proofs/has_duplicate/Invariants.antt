@@ -1,4 +1,4 @@
--- `awaiting::has_duplicate` meets its contract.
+-- The loop of `awaiting::has_duplicate`: what it keeps, and its measure.
 use mathlib.Core.Path.{◌≡◌}
 use Prim.Native.Nat.{◌≤◌, ◌-◌}
 use lib.ListN.{length, drop}
@@ -6,7 +6,6 @@ use Rattle.model.specs.Reads.{has_duplicate}
 use Rattle.awaiting.specs.Awaiting.{entry_slots}
 use Rattle.awaiting.proofs.has_duplicate.Given as goal
 
--- `awaiting::has_duplicate` meets its contract.
 abbrev pub invariant-loop-at : goal.invariant-loop-at
 invariant-loop-at l = (l.at ≤ length l.list) × (has_duplicate (entry_slots l.stride (drop l.at l.list)) ≡ has_duplicate (entry_slots l.stride l.list))
 

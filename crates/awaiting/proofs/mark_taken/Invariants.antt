@@ -1,4 +1,4 @@
--- `awaiting::mark_taken` meets its contract.
+-- The loop of `awaiting::mark_taken`: what it keeps, and its measure.
 use mathlib.Core.Path.{◌≡◌}
 use Prim.Native.Nat.{◌*◌, ◌≤◌, ◌-◌}
 use lib.ListN.{length, drop}
@@ -9,7 +9,6 @@ use Rattle.words.specs.Parts.{placed}
 use Rattle.awaiting.proofs.Stored.{image_of}
 use Rattle.awaiting.proofs.mark_taken.Given as goal
 
--- `awaiting::mark_taken` meets its contract.
 abbrev pub invariant-loop-i : goal.invariant-loop-i
 invariant-loop-i l = (l.i ≤ l.n) × (length l.s ≡ length l.initial.s) × (drop (l.i * awaiting_size) l.s ≡ drop (l.i * awaiting_size) l.initial.s)
     × (placed (l.i * awaiting_size) (image_of (take_queued (drop l.i (pending_of l.n l.initial.s)))) l.s ≡ with_pending l.n (take_queued (pending_of l.n l.initial.s)) l.initial.s)

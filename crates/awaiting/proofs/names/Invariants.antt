@@ -1,4 +1,4 @@
--- `awaiting::names` meets its contract.
+-- The loop of `awaiting::names`: what it keeps, and its measure.
 use mathlib.Core.Path.{◌≡◌}
 use Prim.Native.Nat.{◌≤◌, ◌-◌}
 use lib.ListN.{length, drop}
@@ -6,7 +6,6 @@ use Rattle.awaiting.specs.Awaiting.{entry_slots}
 use Rattle.model.specs.Slots.{mem}
 use Rattle.awaiting.proofs.names.Given as goal
 
--- `awaiting::names` meets its contract.
 abbrev pub invariant-loop-at : goal.invariant-loop-at
 invariant-loop-at l = (l.at ≤ length l.list) × (mem l.slot (entry_slots l.stride (drop l.at l.list)) ≡ mem l.slot (entry_slots l.stride (drop l.from l.list)))
 

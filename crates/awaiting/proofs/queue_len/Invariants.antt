@@ -1,4 +1,4 @@
--- `awaiting::queue_len` meets its contract.
+-- The loop of `awaiting::queue_len`: what it keeps, and its measure.
 use mathlib.Core.Path.{◌≡◌}
 use Prim.Native.Nat.{◌+◌, ◌≤◌, ◌-◌}
 use lib.ListN.{length, drop}
@@ -6,7 +6,6 @@ use Rattle.model.specs.Reads.{queued}
 use Rattle.image.specs.Area.{pending_of}
 use Rattle.awaiting.proofs.queue_len.Given as goal
 
--- `awaiting::queue_len` meets its contract.
 abbrev pub invariant-loop-i : goal.invariant-loop-i
 invariant-loop-i l = (l.i ≤ l.n) × (l.k ≤ l.i) × (l.k + length (queued (drop l.i (pending_of l.n l.s))) ≡ length (queued (pending_of l.n l.s)))
 

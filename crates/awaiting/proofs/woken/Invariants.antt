@@ -1,4 +1,4 @@
--- `awaiting::woken` meets its contract.
+-- The loop of `awaiting::woken`: what it keeps, and its measure.
 use mathlib.Core.Path.{◌≡◌}
 use Prim.Native.Nat.{◌+◌, ◌≤◌, ◌-◌}
 use lib.ListN.{length, drop}
@@ -7,7 +7,6 @@ use Rattle.image.specs.Area.{pending_of}
 use Rattle.awaiting.specs.Awaiting.{entry_slots}
 use Rattle.awaiting.proofs.woken.Given as goal
 
--- `awaiting::woken` meets its contract.
 abbrev pub invariant-loop-at : goal.invariant-loop-at
 invariant-loop-at l = (l.at ≤ length l.list) × (l.sum + woken (entry_slots l.stride (drop l.at l.list)) (pending_of l.n l.s) ≡ woken (entry_slots l.stride l.list) (pending_of l.n l.s))
 

@@ -1,4 +1,4 @@
--- `awaiting::woken_valued` meets its contract.
+-- The loop of `awaiting::woken_valued`: what it keeps, and its measure.
 use mathlib.Core.Path.{◌≡◌}
 use Prim.Native.Nat.{◌+◌, ◌≤◌, ◌-◌}
 use lib.ListN.{length, drop}
@@ -7,7 +7,6 @@ use Rattle.image.specs.Area.{pending_of}
 use Rattle.model.specs.Entries.{members_of}
 use Rattle.awaiting.proofs.woken_valued.Given as goal
 
--- `awaiting::woken_valued` meets its contract.
 abbrev pub invariant-loop-at : goal.invariant-loop-at
 invariant-loop-at l = (l.at ≤ length l.list) × (l.sum + woken (valued_slots (members_of (drop l.at l.list))) (pending_of l.n l.s) ≡ woken (valued_slots (members_of l.list)) (pending_of l.n l.s))
 

@@ -1,4 +1,4 @@
--- `call_answers::slot_lines` meets its contract. Assumes nothing.
+-- The loop of `call_answers::slot_lines`: what it keeps, and its measure.
 use Prim.Native.Nat.{◌+◌, ◌-◌, ◌*◌, ◌≤◌}
 use mathlib.Core.Path.{◌≡◌}
 use lib.ListN.{length}
@@ -8,7 +8,6 @@ use Rattle.call_list.specs.Listing.{slot_lines}
 use Rattle.call_answers.proofs.Slots.{slots_from}
 use Rattle.call_answers.proofs.slot_lines.Given as goal
 
--- `call_answers::slot_lines` meets its contract. Assumes nothing.
 abbrev pub invariant-loop-i : goal.invariant-loop-i
 invariant-loop-i l = (l.i ≤ l.n)
     × (length l.out ≡ length l.initial.out)

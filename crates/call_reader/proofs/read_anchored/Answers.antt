@@ -19,7 +19,7 @@ read_rest-requires c =
     let s = a.s.now in
     let e : c.read_anchor.result ≡ anchor.Value c.in-Value.anchor c.in-Value.rest = search rules in
     got (anchor_answer s) anchor_next e c.read_anchor.ensures in
-    (anchor-read).within
+    anchor-read.within
 
 pub returns-in-Value-read_rest : goal.returns-in-Value-read_rest
 returns-in-Value-read_rest c =
@@ -36,7 +36,7 @@ returns-in-Value-read_rest c =
     let rest-within : let s = c.args.s.now in AnchoredWithin s c.in-Value-read_rest.next.at c.in-Value-read_rest.call = let s = c.args.s.now in
     let e : c.read_rest.result ≡ anchored.Value c.in-Value-read_rest.call c.in-Value-read_rest.next = search rules in
     subst (AnchoredSpans s) e c.read_rest.ensures.spans in
-    record { reading = reading_then _ (anchor-read) (reading_map _ (rest_read)); spans = rest-within }
+    record { reading = reading_then _ anchor-read (reading_map _ rest_read); spans = rest-within }
 
 pub returns-in-Fault-read_rest : goal.returns-in-Fault-read_rest
 returns-in-Fault-read_rest c =
@@ -49,7 +49,7 @@ returns-in-Fault-read_rest c =
     Reading (fault c.in-Fault-read_rest.n (drop c.in-Fault-read_rest.place.at s)) (parse_rest a.code (drop c.in-Value.rest.at s)) c.in-Value.rest.at c.in-Fault-read_rest.place.at (length s) = let s = c.args.s.now in
     let e : c.read_rest.result ≡ anchored.Fault c.in-Fault-read_rest.n c.in-Fault-read_rest.place = search rules in
     got (anchored_answer s) anchored_next e c.read_rest.ensures.reading in
-    record { reading = reading_then _ (anchor-read) (reading_stop _ (rest-fault)); spans = tt }
+    record { reading = reading_then _ anchor-read (reading_stop _ rest-fault); spans = tt }
 
 pub returns-in-Fault : goal.returns-in-Fault
 returns-in-Fault c =
@@ -57,4 +57,4 @@ returns-in-Fault c =
     Reading (fault c.in-Fault.n (drop c.in-Fault.place.at s)) (parse_anchor (drop a.c.at s)) a.c.at c.in-Fault.place.at (length s) = let s = c.args.s.now in
     let e : c.read_anchor.result ≡ anchor.Fault c.in-Fault.n c.in-Fault.place = search rules in
     got (anchor_answer s) anchor_next e c.read_anchor.ensures in
-    record { reading = reading_stop _ (anchor-fault); spans = tt }
+    record { reading = reading_stop _ anchor-fault; spans = tt }

@@ -15,7 +15,7 @@ read_round-requires c =
     let s = a.s.now in
     let e : c.read_form.result ≡ form.Value c.in-Value.failed c.in-Value.next = search rules in
     got (form_answer s) form_next e c.read_form.ensures in
-    (form_read).within
+    form_read.within
 
 pub returns-in-Value : goal.returns-in-Value
 returns-in-Value c =
@@ -24,7 +24,7 @@ returns-in-Value c =
     let s = a.s.now in
     let e : c.read_form.result ≡ form.Value c.in-Value.failed c.in-Value.next = search rules in
     got (form_answer s) form_next e c.read_form.ensures in
-    record { reading = reading_then _ (form_read) c.read_round.ensures.reading; spans = c.read_round.ensures.spans }
+    record { reading = reading_then _ form_read c.read_round.ensures.reading; spans = c.read_round.ensures.spans }
 
 pub returns-in-Fault : goal.returns-in-Fault
 returns-in-Fault c =
@@ -32,4 +32,4 @@ returns-in-Fault c =
     Reading (fault c.in-Fault.n (drop c.in-Fault.place.at s)) (parse_form (drop a.c.at s)) a.c.at c.in-Fault.place.at (length s) = let s = c.args.s.now in
     let e : c.read_form.result ≡ form.Fault c.in-Fault.n c.in-Fault.place = search rules in
     got (form_answer s) form_next e c.read_form.ensures in
-    record { reading = reading_stop _ (form-fault); spans = tt }
+    record { reading = reading_stop _ form-fault; spans = tt }

@@ -15,7 +15,7 @@ returns-in-Value c =
     let s = a.s.now in
     let e : c.read_anchor.result ≡ anchor.Value c.in-Value.anchor c.in-Value.next = search rules in
     got (anchor_answer s) anchor_next e c.read_anchor.ensures in
-    record { reading = reading_map _ (anchor-read); spans = tt }
+    record { reading = reading_map _ anchor-read; spans = tt }
 
 pub returns-in-Fault : goal.returns-in-Fault
 returns-in-Fault c =
@@ -23,4 +23,4 @@ returns-in-Fault c =
     Reading (fault c.in-Fault.n (drop c.in-Fault.place.at s)) (parse_anchor (drop a.c.at s)) a.c.at c.in-Fault.place.at (length s) = let s = c.args.s.now in
     let e : c.read_anchor.result ≡ anchor.Fault c.in-Fault.n c.in-Fault.place = search rules in
     got (anchor_answer s) anchor_next e c.read_anchor.ensures in
-    record { reading = reading_stop _ (anchor-fault); spans = tt }
+    record { reading = reading_stop _ anchor-fault; spans = tt }

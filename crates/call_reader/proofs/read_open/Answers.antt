@@ -16,7 +16,7 @@ read_form-requires c =
     let s = a.s.now in
     let e : c.read_number.result ≡ number.Value c.in-Value.capacity c.in-Value.form = search rules in
     got (number_answer s) number_next e c.read_number.ensures in
-    (capacity-read).within
+    capacity-read.within
 
 pub read_limits-requires : goal.read_limits-requires
 read_limits-requires c =
@@ -25,7 +25,7 @@ read_limits-requires c =
     let s = a.s.now in
     let e : c.read_form.result ≡ form.Value c.in-Value-read_form.named c.in-Value-read_form.next = search rules in
     got (form_answer s) form_next e c.read_form.ensures in
-    (form_read).within
+    form_read.within
 
 pub returns-in-Value-read_form : goal.returns-in-Value-read_form
 returns-in-Value-read_form c =
@@ -39,7 +39,7 @@ returns-in-Value-read_form c =
     let s = a.s.now in
     let e : c.read_form.result ≡ form.Value c.in-Value-read_form.named c.in-Value-read_form.next = search rules in
     got (form_answer s) form_next e c.read_form.ensures in
-    record { reading = reading_then _ (capacity-read) (reading_then _ (form_read) c.read_limits.ensures.reading); spans = c.read_limits.ensures.spans }
+    record { reading = reading_then _ capacity-read (reading_then _ form_read c.read_limits.ensures.reading); spans = c.read_limits.ensures.spans }
 
 pub returns-in-Fault-read_form : goal.returns-in-Fault-read_form
 returns-in-Fault-read_form c =
@@ -52,7 +52,7 @@ returns-in-Fault-read_form c =
     Reading (fault c.in-Fault-read_form.n (drop c.in-Fault-read_form.place.at s)) (parse_form (drop c.in-Value.form.at s)) c.in-Value.form.at c.in-Fault-read_form.place.at (length s) = let s = c.args.s.now in
     let e : c.read_form.result ≡ form.Fault c.in-Fault-read_form.n c.in-Fault-read_form.place = search rules in
     got (form_answer s) form_next e c.read_form.ensures in
-    record { reading = reading_then _ (capacity-read) (reading_stop _ (form-fault)); spans = tt }
+    record { reading = reading_then _ capacity-read (reading_stop _ form-fault); spans = tt }
 
 pub returns-in-Fault : goal.returns-in-Fault
 returns-in-Fault c =
@@ -60,4 +60,4 @@ returns-in-Fault c =
     Reading (fault c.in-Fault.n (drop c.in-Fault.place.at s)) (parse_number (drop a.c.at s)) a.c.at c.in-Fault.place.at (length s) = let s = c.args.s.now in
     let e : c.read_number.result ≡ number.Fault c.in-Fault.n c.in-Fault.place = search rules in
     got (number_answer s) number_next e c.read_number.ensures in
-    record { reading = reading_stop _ (capacity-fault); spans = tt }
+    record { reading = reading_stop _ capacity-fault; spans = tt }

@@ -21,7 +21,7 @@ read_entries-requires-in-Value c =
     let s = a.s.now in
     let e : c.read_entries.result ≡ span.Value c.in-Value.relevance c.in-Value.rest = search rules in
     got (span_answer s) span_next e c.read_entries.ensures.reading in
-    ((relevance-read).within, search rules)
+    (relevance-read.within, search rules)
 
 pub returns-in-Value-read_entries : goal.returns-in-Value-read_entries
 returns-in-Value-read_entries c =
@@ -44,7 +44,7 @@ returns-in-Value-read_entries c =
     let a = c.args in
     let s = a.s.now in
     let mid = c.in-Value.rest.at in
-    record { reading = reading_then _ (reading_list address_of 20 (drop a.c.at s) (relevance-read)) (reading_map _ (reading_list write_of 84 (drop mid s) (writes-read))); spans = (relevance-within, writes-within) }
+    record { reading = reading_then _ (reading_list address_of 20 (drop a.c.at s) relevance-read) (reading_map _ (reading_list write_of 84 (drop mid s) writes-read)); spans = (relevance-within, writes-within) }
 
 pub returns-in-Fault-read_entries : goal.returns-in-Fault-read_entries
 returns-in-Fault-read_entries c =
@@ -60,7 +60,7 @@ returns-in-Fault-read_entries c =
     let a = c.args in
     let s = a.s.now in
     let mid = c.in-Value.rest.at in
-    record { reading = reading_then _ (reading_list address_of 20 (drop a.c.at s) (relevance-read)) (reading_stop _ (reading_list_stop write_of 84 (drop mid s) (writes-fault))); spans = tt }
+    record { reading = reading_then _ (reading_list address_of 20 (drop a.c.at s) relevance-read) (reading_stop _ (reading_list_stop write_of 84 (drop mid s) writes-fault)); spans = tt }
 
 pub returns-in-Fault : goal.returns-in-Fault
 returns-in-Fault c =
@@ -69,4 +69,4 @@ returns-in-Fault c =
     let e : c.read_entries.result ≡ span.Fault c.in-Fault.n c.in-Fault.place = search rules in
     got (span_answer s) span_next e c.read_entries.ensures.reading in
     let a = c.args in
-    record { reading = reading_stop _ (reading_list_stop address_of 20 (drop a.c.at a.s.now) (relevance-fault)); spans = tt }
+    record { reading = reading_stop _ (reading_list_stop address_of 20 (drop a.c.at a.s.now) relevance-fault); spans = tt }

@@ -19,7 +19,7 @@ returns-in-Value c =
     got (number_answer s) number_next e c.read_number.ensures in
     let a = c.args in
     let s = a.s.now in
-    reading_as (ap (λ (b : Bool). parse_retention b (drop a.c.at s)) (sym c.if-idle.true)) (reading_map _ (blocks-read))
+    reading_as (ap (λ (b : Bool). parse_retention b (drop a.c.at s)) (sym c.if-idle.true)) (reading_map _ blocks-read)
 
 pub returns-in-Fault : goal.returns-in-Fault
 returns-in-Fault c =
@@ -29,7 +29,7 @@ returns-in-Fault c =
     got (number_answer s) number_next e c.read_number.ensures in
     let a = c.args in
     let s = a.s.now in
-    reading_as (ap (λ (b : Bool). parse_retention b (drop a.c.at s)) (sym c.if-idle.true)) (reading_stop _ (blocks-fault))
+    reading_as (ap (λ (b : Bool). parse_retention b (drop a.c.at s)) (sym c.if-idle.true)) (reading_stop _ blocks-fault)
 
 pub returns-else-idle : goal.returns-else-idle
 returns-else-idle c =

@@ -26,7 +26,7 @@ returns-in-Value c =
     subst (EntriesWithin 52 (length s)) e c.read_entries.ensures.spans in
     let a = c.args in
     let s = a.s.now in
-    record { reading = reading_as (ap (λ (b : Bool). parse_round b (drop a.c.at s)) (sym c.if-failed.true)) (reading_map _ (reading_list slot_of 52 (drop a.c.at s) (slots_read))); spans = slots_within }
+    record { reading = reading_as (ap (λ (b : Bool). parse_round b (drop a.c.at s)) (sym c.if-failed.true)) (reading_map _ (reading_list slot_of 52 (drop a.c.at s) slots_read)); spans = slots_within }
 
 pub returns-in-Fault : goal.returns-in-Fault
 returns-in-Fault c =
@@ -36,7 +36,7 @@ returns-in-Fault c =
     got (span_answer s) span_next e c.read_entries.ensures.reading in
     let a = c.args in
     let s = a.s.now in
-    record { reading = reading_as (ap (λ (b : Bool). parse_round b (drop a.c.at s)) (sym c.if-failed.true)) (reading_stop _ (reading_list_stop slot_of 52 (drop a.c.at s) (slots-fault))); spans = tt }
+    record { reading = reading_as (ap (λ (b : Bool). parse_round b (drop a.c.at s)) (sym c.if-failed.true)) (reading_stop _ (reading_list_stop slot_of 52 (drop a.c.at s) slots-fault)); spans = tt }
 
 pub returns-in-Value-read_members : goal.returns-in-Value-read_members
 returns-in-Value-read_members c =
@@ -50,7 +50,7 @@ returns-in-Value-read_members c =
     subst (SpansMembers s) e c.read_members.ensures.spans in
     let a = c.args in
     let s = a.s.now in
-    record { reading = reading_as (ap (λ (b : Bool). parse_round b (drop a.c.at s)) (sym c.if-failed.false)) (reading_map _ (reading_members (drop a.c.at s) (members-read))); spans = members-here }
+    record { reading = reading_as (ap (λ (b : Bool). parse_round b (drop a.c.at s)) (sym c.if-failed.false)) (reading_map _ (reading_members (drop a.c.at s) members-read)); spans = members-here }
 
 pub returns-in-Fault-read_members : goal.returns-in-Fault-read_members
 returns-in-Fault-read_members c =
@@ -60,4 +60,4 @@ returns-in-Fault-read_members c =
     got (span_answer s) span_next e c.read_members.ensures.reading in
     let a = c.args in
     let s = a.s.now in
-    record { reading = reading_as (ap (λ (b : Bool). parse_round b (drop a.c.at s)) (sym c.if-failed.false)) (reading_stop _ (reading_members_stop (drop a.c.at s) (members-fault))); spans = tt }
+    record { reading = reading_as (ap (λ (b : Bool). parse_round b (drop a.c.at s)) (sym c.if-failed.false)) (reading_stop _ (reading_members_stop (drop a.c.at s) members-fault)); spans = tt }

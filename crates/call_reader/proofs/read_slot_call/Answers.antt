@@ -19,7 +19,7 @@ returns-in-Value c =
     got (slot_answer s) slot_next e c.read_slot.ensures in
     let a = c.args in
     let s = a.s.now in
-    record { reading = reading_from (ap (λ x. parsed (on_slot x) (drop c.in-Value.next.at s)) c.slot_call.ensures) (reading_map (λ x. on_slot (slot_call a.code x)) (slot_read)); spans = tt }
+    record { reading = reading_from (ap (λ x. parsed (on_slot x) (drop c.in-Value.next.at s)) c.slot_call.ensures) (reading_map (λ x. on_slot (slot_call a.code x)) slot_read); spans = tt }
 
 pub returns-in-Fault : goal.returns-in-Fault
 returns-in-Fault c =
@@ -27,4 +27,4 @@ returns-in-Fault c =
     Reading (fault c.in-Fault.n (drop c.in-Fault.place.at s)) (parse_slot (drop a.c.at s)) a.c.at c.in-Fault.place.at (length s) = let s = c.args.s.now in
     let e : c.read_slot.result ≡ slot.Fault c.in-Fault.n c.in-Fault.place = search rules in
     got (slot_answer s) slot_next e c.read_slot.ensures in
-    record { reading = reading_stop _ (slot-fault); spans = tt }
+    record { reading = reading_stop _ slot-fault; spans = tt }

@@ -17,7 +17,7 @@ run_calls-last-requires c =
     let long : let a = c.args in
     too_short a.list.now a.members.now a.out.now ≡ false = sym c.too_short.ensures ∙ c.if-too_short.false in
     let a = c.args in
-    (record { known_is = c.is_store.ensures; ended_is = refl; room = omega arith }, refl, (long_enough a.list.now a.members.now a.out.now (long)).1)
+    (record { known_is = c.is_store.ensures; ended_is = refl; room = omega arith }, refl, (long_enough a.list.now a.members.now a.out.now long).1)
 
 pub returns-then-last : goal.returns-then-last
 returns-then-last c =

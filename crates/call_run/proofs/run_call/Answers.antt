@@ -24,7 +24,7 @@ step-a-requires c =
     let read : let a = c.args in
     ReadCall a.list.now a.t.next c.read_call.result = (c.read_call.ensures.reading, c.read_call.ensures.progress, c.read_call.ensures.spans) in
     let is_call : c.read_call.result ≡ Value c.in-Value.call c.in-Value.after = search rules in
-    (c.requires.0.known_is, value_there c.args.list.now c.args.t.next (read) (is_call), c.requires.3)
+    (c.requires.0.known_is, value_there c.args.list.now c.args.t.next read is_call, c.requires.3)
 
 pub answer_lines-at-requires : goal.answer_lines-at-requires
 answer_lines-at-requires c =
@@ -41,12 +41,12 @@ returns-in-Value c =
     ReadCall a.list.now a.t.next c.read_call.result = (c.read_call.ensures.reading, c.read_call.ensures.progress, c.read_call.ensures.spans) in
     let a = c.args in
     let e = is_call in
-    let f = value_forward a.list.now a.t.next (read) e in
+    let f = value_forward a.list.now a.t.next read e in
     let q : Progress = called_at a.list.now a.t c.step-a.result c.in-Value.after.at c.answer_lines-at.result in
     let z = ran_to {q = q} c.after_call.ensures (
       ran_call (length a.work.now) a.entries.now a.list.now a.s.now a.out.now a.t _ _ q _ c.step-a.result _
           (known_bytes a.list.now c.type_inv.list) c.requires.0 c.requires.2
-          (value_parse a.list.now a.t.next (read) e) f c.step-a.ensures c.answer_lines-at.ensures refl refl refl,
+          (value_parse a.list.now a.t.next read e) f c.step-a.ensures c.answer_lines-at.ensures refl refl refl,
       f,
     ) in
     record { run = z.0; forward = z.1 }
@@ -58,7 +58,7 @@ returns-in-Fault c =
     let more : c.args.t.next < length c.args.list.now = not_ended c.args.list.now c.args.s.now c.args.out.now c.args.t c.requires.0 c.requires.1 in
     let a = c.args in
     let e : c.read_call.result ≡ Fault c.in-Fault.n c.in-Fault.place = search rules in
-    let f = fault_at a.list.now a.t.next (read) e (more) in
+    let f = fault_at a.list.now a.t.next read e more in
     let q : Progress = broken_at a.list.now a.t c.in-Fault.n c.in-Fault.place.at c.refusal_line-at.result in
     let z = ran_to {q = q} c.after_fault.ensures (
       ran_fault (length a.work.now) (length a.entries.now / 52) a.list.now a.s.now a.out.now a.t _ c.in-Fault.n c.in-Fault.place.at c.refusal_line-at.result

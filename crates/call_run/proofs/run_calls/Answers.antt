@@ -24,7 +24,7 @@ run_call-t-requires c =
     (l.t.ended ≡ false) × (l.t.at + call_lines ≤ length l.out) = let l = c.loop-s in
     let g = goes_on_true _ l.t.ended (length l.out) l.t.at (sym c.goes_on.ensures ∙ c.loop-s-test.true) (lit< tt) in
     (g.0, omega (arith, g.1)) in
-    (c.loop-s.invariant.0.now_at, (on).0, (on).1, omega (arith, c.requires.2, c.loop-s.invariant.4))
+    (c.loop-s.invariant.0.now_at, on.0, on.1, omega (arith, c.requires.2, c.loop-s.invariant.4))
 
 pub loop-s-smaller : goal.loop-s-smaller
 loop-s-smaller c = omega (arith, c.run_call-t.ensures.forward.0, c.run_call-t.ensures.forward.1)
@@ -38,7 +38,7 @@ loop-s-preserved c =
     let a = c.args in
     let i = c.loop-s.invariant in (
       ran_then (length a.work.now) (length a.entries.now / 52) a.list.now a.s.now a.out.now a.first c.loop-s.s c.loop-s.out c.loop-s.t _ _ c.run_call-t.result
-          i.0 (on).0
+          i.0 on.0
           (same_lent (length a.work.now) (length c.loop-s.work) (length a.entries.now) (length c.loop-s.entries) a.list.now c.loop-s.s c.loop-s.out c.loop-s.t _ _ c.run_call-t.result i.2 i.3 c.run_call-t.ensures.run),
       c.s-1.given ∙ i.1,
       c.work-1.given ∙ i.2,

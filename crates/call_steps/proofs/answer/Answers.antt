@@ -22,4 +22,4 @@ pub returns : goal.returns
 returns c w e =
     let named : let a = c.args in members_of (take (a.span.count * 85 - 0) c.expand_members.new.members) ≡ members_at a.list.now a.span = ap members_of (from_start (c.args.span.count * 85) c.expand_members.new.members) ∙ c.expand_members.ensures.0 in
     let a = c.args in
-    stepped_as a.s.now w e (ap (λ (ms : List Member). on_store (at_anchor a.anchor (answer ms))) (sym (named))) (plain_answer a.anchor _) (silent_answer c.answer.result) c.of_answer.ensures c.answer.ensures
+    stepped_as a.s.now w e (ap (λ (ms : List Member). on_store (at_anchor a.anchor (answer ms))) (sym named)) (plain_answer a.anchor _) (silent_answer c.answer.result) c.of_answer.ensures c.answer.ensures

@@ -22,12 +22,12 @@ install-requires c = ap is_some c.requires.0
 pub advance-requires : goal.advance-requires
 advance-requires c =
     let an-advance : c.args.call ≡ Advance c.in-Advance.child c.in-Advance.parent_hash c.in-Advance.prepared = search rules in
-    let h = there c.args.list.now c.args.call _ c.requires.1 (an-advance) in (c.requires.0, h)
+    let h = there c.args.list.now c.args.call _ c.requires.1 an-advance in (c.requires.0, h)
 
 pub anchored-requires : goal.anchored-requires
 anchored-requires c =
     let an-anchored : c.args.call ≡ Anchored c.in-Anchored.anchor c.in-Anchored.c = search rules in
-    (c.requires.0, record { next = c.requires.1.next; within = there c.args.list.now c.args.call _ c.requires.1 (an-anchored) }, c.requires.2)
+    (c.requires.0, record { next = c.requires.1.next; within = there c.args.list.now c.args.call _ c.requires.1 an-anchored }, c.requires.2)
 
 pub returns-in-OpenDefault : goal.returns-in-OpenDefault
 returns-in-OpenDefault c =
@@ -51,10 +51,10 @@ pub returns-in-Advance : goal.returns-in-Advance
 returns-in-Advance c =
     let an-advance : c.args.call ≡ Advance c.in-Advance.child c.in-Advance.parent_hash c.in-Advance.prepared = search rules in
     let a = c.args in
-    named_as a.s.now (length a.work.now) a.entries.now (ap (meant a.list.now) (an-advance)) c.advance.ensures
+    named_as a.s.now (length a.work.now) a.entries.now (ap (meant a.list.now) an-advance) c.advance.ensures
 
 pub returns-in-Anchored : goal.returns-in-Anchored
 returns-in-Anchored c =
     let an-anchored : c.args.call ≡ Anchored c.in-Anchored.anchor c.in-Anchored.c = search rules in
     let a = c.args in
-    named_as a.s.now (length a.work.now) a.entries.now (ap (meant a.list.now) (an-anchored)) (c.anchored.ensures (length a.work.now))
+    named_as a.s.now (length a.work.now) a.entries.now (ap (meant a.list.now) an-anchored) (c.anchored.ensures (length a.work.now))

@@ -1,9 +1,8 @@
--- `chains::last_below` meets its contract.
+-- The loop of `chains::last_below`: what it keeps, and its measure.
 use Prim.Native.Nat.{◌-◌}
 use Rattle.chains.proofs.ChainLaws.{Walking}
 use Rattle.chains.proofs.last_below.Given as goal
 
--- `chains::last_below` meets its contract.
 abbrev pub invariant-loop-p : goal.invariant-loop-p
 invariant-loop-p l = Walking l.s l.i l.p
 

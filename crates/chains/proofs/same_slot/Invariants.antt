@@ -1,10 +1,9 @@
--- `chains::same_slot` meets its contract.
+-- The loop of `chains::same_slot`: what it keeps, and its measure.
 use Prim.Native.Nat.{◌-◌, ◌≤◌}
 use Rattle.layout.specs.Layout.{slot_width}
 use Rattle.chains.proofs.SlotAt.{Agree}
 use Rattle.chains.proofs.same_slot.Given as goal
 
--- `chains::same_slot` meets its contract.
 abbrev pub invariant-loop-k : goal.invariant-loop-k
 invariant-loop-k l = (l.k ≤ slot_width) × Agree l.i l.j l.s l.k
 

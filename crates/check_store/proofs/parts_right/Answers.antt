@@ -26,7 +26,7 @@ returns-then-not-counts_right c =
 pub ends_right-requires : goal.ends_right-requires
 ends_right-requires c =
     let counts : Counts (words_of header_width c.args.s.now) = counts_say _ (sym c.counts_right.ensures ∙ c.if-not-counts_right.false) in
-    omega (arith, (counts).depth, c.word-depth.ensures header_width (lit< tt), c.requires)
+    omega (arith, counts.depth, c.word-depth.ensures header_width (lit< tt), c.requires)
 
 pub returns-then-not-ends_right : goal.returns-then-not-ends_right
 returns-then-not-ends_right c =
@@ -39,7 +39,7 @@ returns-then-not-ends_right c =
 pub reads_right-requires : goal.reads_right-requires
 reads_right-requires c =
     let counts : Counts (words_of header_width c.args.s.now) = counts_say _ (sym c.counts_right.ensures ∙ c.if-not-counts_right.false) in
-    omega (arith, (counts).awaiting, c.word.ensures header_width (lit< tt), c.requires)
+    omega (arith, counts.awaiting, c.word.ensures header_width (lit< tt), c.requires)
 
 pub returns-then-not-reads_right : goal.returns-then-not-reads_right
 returns-then-not-reads_right c =

@@ -1,4 +1,4 @@
--- `checking::ends_rise` meets its contract.
+-- The loop of `checking::ends_rise`: what it keeps, and its measure.
 use mathlib.Core.Path.{◌≡◌}
 use Prim.Native.Nat.{suc, ◌+◌, ◌-◌, ◌≤◌}
 use lib.ListN.{take, drop}
@@ -7,7 +7,6 @@ use Rattle.image.specs.Image.{words_of}
 use Rattle.checking.specs.Checks.{ends_rise}
 use Rattle.checking.proofs.ends_rise.Given as goal
 
--- `checking::ends_rise` meets its contract.
 abbrev pub invariant-loop-k : goal.invariant-loop-k
 invariant-loop-k l = (l.k ≤ l.depth + 1) × (ends_rise l.n 0 (take (suc l.depth) (words_of ends_limit l.s)) ≡ ends_rise l.n l.from (drop l.k (take (suc l.depth) (words_of ends_limit l.s))))
 

@@ -34,7 +34,7 @@ returns-then-not-rises c =
     layers_rise c.loop-k.from (drop c.loop-k.k es) (drop c.loop-k.from (rows record_width a.n a.s.now)) ≡ (c.rises.result && layers_rise x (drop (c.loop-k.k + 1) es) (drop x (rows record_width a.n a.s.now))) = let a = c.args in
     let es = take (suc a.depth) (words_of ends_limit a.ends.now) in
     let x = c.word-e.result in
-    layers_next a.n c.loop-k.from c.loop-k.k a.depth x (words_of ends_limit a.ends.now) a.s.now (search rules) (omega (arith, length_words_of ends_limit a.ends.now)) (c.word-e.ensures ends_limit (search rules)) (said).up (said).low
+    layers_next a.n c.loop-k.from c.loop-k.k a.depth x (words_of ends_limit a.ends.now) a.s.now (search rules) (omega (arith, length_words_of ends_limit a.ends.now)) (c.word-e.ensures ends_limit (search rules)) said.up said.low
     ∙ ap (λ (t : Bool). t && layers_rise x (drop (c.loop-k.k + 1) es) (drop x (rows record_width a.n a.s.now))) (sym c.rises.ensures) in
     sym (c.loop-k.invariant.3 ∙ step ∙ rw c.if-not-rises.true)
 
@@ -49,7 +49,7 @@ loop-k-preserved c =
     layers_rise c.loop-k.from (drop c.loop-k.k es) (drop c.loop-k.from (rows record_width a.n a.s.now)) ≡ (c.rises.result && layers_rise x (drop (c.loop-k.k + 1) es) (drop x (rows record_width a.n a.s.now))) = let a = c.args in
     let es = take (suc a.depth) (words_of ends_limit a.ends.now) in
     let x = c.word-e.result in
-    layers_next a.n c.loop-k.from c.loop-k.k a.depth x (words_of ends_limit a.ends.now) a.s.now (search rules) (omega (arith, length_words_of ends_limit a.ends.now)) (c.word-e.ensures ends_limit (search rules)) (said).up (said).low
+    layers_next a.n c.loop-k.from c.loop-k.k a.depth x (words_of ends_limit a.ends.now) a.s.now (search rules) (omega (arith, length_words_of ends_limit a.ends.now)) (c.word-e.ensures ends_limit (search rules)) said.up said.low
     ∙ ap (λ (t : Bool). t && layers_rise x (drop (c.loop-k.k + 1) es) (drop x (rows record_width a.n a.s.now))) (sym c.rises.ensures) in
     let x = said in
     (search rules, x.low, x.later, c.loop-k.invariant.3 ∙ step ∙ rw c.if-not-rises.false)

@@ -1,4 +1,4 @@
--- `checking::records_all` meets its contract.
+-- The loop of `checking::records_all`: what it keeps, and its measure.
 use mathlib.Core.Path.{◌≡◌}
 use Prim.Native.Nat.{◌-◌, ◌≤◌}
 use lib.ListN.{drop}
@@ -6,7 +6,6 @@ use Rattle.layout.specs.Layout.{record_width}
 use Rattle.checking.specs.Checks.{all_of, record_right, rows}
 use Rattle.checking.proofs.records_all.Given as goal
 
--- `checking::records_all` meets its contract.
 abbrev pub invariant-loop-i : goal.invariant-loop-i
 invariant-loop-i l = (l.i ≤ l.n) × (all_of (record_right l.number) (rows record_width l.n l.s) ≡ all_of (record_right l.number) (drop l.i (rows record_width l.n l.s)))
 

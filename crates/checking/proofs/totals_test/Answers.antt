@@ -25,14 +25,14 @@ overflow_add-waiting c =
     let few : let a = c.args in (a.accepted ≤ 4294967295) × (a.accepted ≡ a.served + a.waiting + a.valued + a.refused) = let a = c.args in
     let x = c.reads_add_up in
     sum_few a.accepted a.served a.waiting a.valued a.refused x.result x.ensures c.if-not-reads_add_up.false in
-    omega (arith, (few).0, (few).1)
+    omega (arith, few.0, few.1)
 
 pub overflow_add-waiting-2 : goal.overflow_add-waiting-2
 overflow_add-waiting-2 c =
     let few : let a = c.args in (a.accepted ≤ 4294967295) × (a.accepted ≡ a.served + a.waiting + a.valued + a.refused) = let a = c.args in
     let x = c.reads_add_up in
     sum_few a.accepted a.served a.waiting a.valued a.refused x.result x.ensures c.if-not-reads_add_up.false in
-    omega (arith, (few).0, (few).1)
+    omega (arith, few.0, few.1)
 
 pub returns-then-not-members_add_up : goal.returns-then-not-members_add_up
 returns-then-not-members_add_up c =

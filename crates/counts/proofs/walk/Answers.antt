@@ -23,12 +23,12 @@ loop-j-init c = (search rules, search rules, search rules, omega arith, omega ar
 pub valued-requires : goal.valued-requires
 valued-requires c =
     let names : Names c.args.n c.args.ix.now = all_ordered (numbers c.args.n c.args.s.now) (up_from 0 c.args.n) c.args.ix.now c.requires.1 (names_up c.args.n) in
-    (search rules, all_at (names) c.loop-j.j (omega arith))
+    (search rules, all_at names c.loop-j.j (omega arith))
 
 pub last_use-requires : goal.last_use-requires
 last_use-requires c =
     let names : Names c.args.n c.args.ix.now = all_ordered (numbers c.args.n c.args.s.now) (up_from 0 c.args.n) c.args.ix.now c.requires.1 (names_up c.args.n) in
-    (search rules, all_at (names) c.loop-j.j (omega arith))
+    (search rules, all_at names c.loop-j.j (omega arith))
 
 pub ends-requires : goal.ends-requires
 ends-requires c =

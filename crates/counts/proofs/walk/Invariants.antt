@@ -1,4 +1,4 @@
--- `counts::walk` meets its contract.
+-- The loop of `counts::walk`: what it keeps, and its measure.
 use mathlib.Core.Path.{◌≡◌}
 use Prim.Native.Nat.{◌+◌, ◌≤◌, ◌-◌}
 use lib.ListN.{length, drop}
@@ -8,7 +8,6 @@ use Rattle.order.proofs.WalkLaws.{walk}
 use Rattle.counts.proofs.CountLaws.{unseen, sees, served}
 use Rattle.counts.proofs.walk.Given as goal
 
--- `counts::walk` meets its contract.
 abbrev pub invariant-loop-j : goal.invariant-loop-j
 invariant-loop-j l = (l.j ≤ length l.ix) × (l.held ≤ l.j) × (l.live ≤ l.j)
     × (l.held + walk (sees (records_of l.n l.s)) unseen (λ a. a.any) (numbers l.n l.s) (record { any = l.any; low = l.low }) (drop l.j l.ix)

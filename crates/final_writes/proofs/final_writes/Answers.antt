@@ -19,25 +19,25 @@ pub returns-then-not-counts_agree : goal.returns-then-not-counts_agree
 returns-then-not-counts_agree c =
     let differ : let a = c.args in counts_differ (lent_lists a.accounts.now a.slots.now a.changes.now a.reads.now) ≡ true = not-false _ (sym c.counts_agree.ensures ∙ c.if-not-counts_agree.true) in
     let a = c.args in
-    refused_10 a.accounts.now a.slots.now a.changes.now a.reads.now a.plan_addresses.now a.writes_out.now a.reads_out.now a.max_writes a.max_reads (differ)
+    refused_10 a.accounts.now a.slots.now a.changes.now a.reads.now a.plan_addresses.now a.writes_out.now a.reads_out.now a.max_writes a.max_reads differ
 
 pub returns-then-writes_out-slots : goal.returns-then-writes_out-slots
 returns-then-writes_out-slots c =
     let alike : let a = c.args in counts_differ (lent_lists a.accounts.now a.slots.now a.changes.now a.reads.now) ≡ false = not-true _ (sym c.counts_agree.ensures ∙ c.if-not-counts_agree.false) in
     let a = c.args in
-    refused_9_writes a.accounts.now a.slots.now a.changes.now a.reads.now a.plan_addresses.now a.writes_out.now a.reads_out.now a.max_writes a.max_reads (alike) c.if-writes_out-slots.true
+    refused_9_writes a.accounts.now a.slots.now a.changes.now a.reads.now a.plan_addresses.now a.writes_out.now a.reads_out.now a.max_writes a.max_reads alike c.if-writes_out-slots.true
 
 pub returns-then-reads_out-reads : goal.returns-then-reads_out-reads
 returns-then-reads_out-reads c =
     let alike : let a = c.args in counts_differ (lent_lists a.accounts.now a.slots.now a.changes.now a.reads.now) ≡ false = not-true _ (sym c.counts_agree.ensures ∙ c.if-not-counts_agree.false) in
     let a = c.args in
-    refused_9_reads a.accounts.now a.slots.now a.changes.now a.reads.now a.plan_addresses.now a.writes_out.now a.reads_out.now a.max_writes a.max_reads (alike) c.if-writes_out-slots.false c.if-reads_out-reads.true
+    refused_9_reads a.accounts.now a.slots.now a.changes.now a.reads.now a.plan_addresses.now a.writes_out.now a.reads_out.now a.max_writes a.max_reads alike c.if-writes_out-slots.false c.if-reads_out-reads.true
 
 pub seed_from_accounts-w-requires : goal.seed_from_accounts-w-requires
 seed_from_accounts-w-requires c =
     let alike : let a = c.args in counts_differ (lent_lists a.accounts.now a.slots.now a.changes.now a.reads.now) ≡ false = not-true _ (sym c.counts_agree.ensures ∙ c.if-not-counts_agree.false) in
     let a = c.args in
-    (start_fits a.accounts.now a.slots.now a.changes.now a.reads.now a.plan_addresses.now a.writes_out.now a.reads_out.now a.max_writes a.max_reads (alike), omega (arith, c.if-writes_out-slots.false), omega (arith, c.if-reads_out-reads.false))
+    (start_fits a.accounts.now a.slots.now a.changes.now a.reads.now a.plan_addresses.now a.writes_out.now a.reads_out.now a.max_writes a.max_reads alike, omega (arith, c.if-writes_out-slots.false), omega (arith, c.if-reads_out-reads.false))
 
 pub counts_of-requires : goal.counts_of-requires
 counts_of-requires c =
@@ -57,4 +57,4 @@ returns c =
     let ro' : List ℕ = c.seed_from_accounts-w.new.reads_out in
     subst (λ (x : SeedCounts). Answers (Seeded x) wo' ro' (lent_final_writes (plan_of a.plan_addresses.now a.max_writes a.max_reads) (lent_lists a.accounts.now a.slots.now a.changes.now a.reads.now) a.writes_out.now a.reads_out.now) a.writes_out.now a.reads_out.now)
     (sym (c.counts_of.ensures ∙ ap₂ (counts_of w) c.limit.ensures c.limit-2.ensures))
-    (accepted a.accounts.now a.slots.now a.changes.now a.reads.now a.plan_addresses.now a.writes_out.now a.reads_out.now a.max_writes a.max_reads w wo' ro' (alike) c.if-writes_out-slots.false c.if-reads_out-reads.false (λ j. (c.type_inv.accounts j).fits) (λ j. (c.type_inv.slots j).fits) (λ j. (c.type_inv.changes j).fits) (λ j. (c.type_inv.reads j).fits) (lists-small).0 (lists-small).1 c.seed_from_accounts-w.ensures)
+    (accepted a.accounts.now a.slots.now a.changes.now a.reads.now a.plan_addresses.now a.writes_out.now a.reads_out.now a.max_writes a.max_reads w wo' ro' alike c.if-writes_out-slots.false c.if-reads_out-reads.false (λ j. (c.type_inv.accounts j).fits) (λ j. (c.type_inv.slots j).fits) (λ j. (c.type_inv.changes j).fits) (λ j. (c.type_inv.reads j).fits) lists-small.0 lists-small.1 c.seed_from_accounts-w.ensures)

@@ -32,13 +32,13 @@ loop-j-init c = (search rules, search rules, search rules, search rules, refl, o
 pub valued-has-requires : goal.valued-has-requires
 valued-has-requires c =
     let names : Names c.args.n c.args.ix.now = all_ordered (numbers c.args.n c.args.s.now) (up_from 0 c.args.n) c.args.ix.now c.requires.2 (names_up c.args.n) in
-    let named : let a = c.args in c.loop-j.j < length a.ix.now → get_or a.ix.now c.loop-j.j 0 < a.n = λ h. all_at (names) c.loop-j.j h in
+    let named : let a = c.args in c.loop-j.j < length a.ix.now → get_or a.ix.now c.loop-j.j 0 < a.n = λ h. all_at names c.loop-j.j h in
     (search rules, named (omega arith))
 
 pub last_use-requires : goal.last_use-requires
 last_use-requires c =
     let names : Names c.args.n c.args.ix.now = all_ordered (numbers c.args.n c.args.s.now) (up_from 0 c.args.n) c.args.ix.now c.requires.2 (names_up c.args.n) in
-    let named : let a = c.args in c.loop-j.j < length a.ix.now → get_or a.ix.now c.loop-j.j 0 < a.n = λ h. all_at (names) c.loop-j.j h in
+    let named : let a = c.args in c.loop-j.j < length a.ix.now → get_or a.ix.now c.loop-j.j 0 < a.n = λ h. all_at names c.loop-j.j h in
     (search rules, named (omega arith))
 
 pub ends-requires : goal.ends-requires
@@ -49,7 +49,7 @@ ends-requires c =
 pub settle-left-requires : goal.settle-left-requires
 settle-left-requires c =
     let names : Names c.args.n c.args.ix.now = all_ordered (numbers c.args.n c.args.s.now) (up_from 0 c.args.n) c.args.ix.now c.requires.2 (names_up c.args.n) in
-    let named : let a = c.args in c.loop-j.j < length a.ix.now → get_or a.ix.now c.loop-j.j 0 < a.n = λ h. all_at (names) c.loop-j.j h in
+    let named : let a = c.args in c.loop-j.j < length a.ix.now → get_or a.ix.now c.loop-j.j 0 < a.n = λ h. all_at names c.loop-j.j h in
     let chosen : c.choose-at.result < c.args.n = let a = c.args in
     let h : get_or a.ix.now c.loop-j.j 0 < a.n = named (omega arith) in
     let q : c.choose-at.result ≤ a.n - 1 = subst (λ (k : ℕ). k ≤ a.n - 1) (sym c.choose-at.ensures) (choose_le c.valued-has.result _ c.loop-j.at (a.n - 1) (omega arith) c.loop-j.invariant.3) in
@@ -64,7 +64,7 @@ overflow_add-dropped c =
 pub loop-j-preserved : goal.loop-j-preserved
 loop-j-preserved c =
     let names : Names c.args.n c.args.ix.now = all_ordered (numbers c.args.n c.args.s.now) (up_from 0 c.args.n) c.args.ix.now c.requires.2 (names_up c.args.n) in
-    let named : let a = c.args in c.loop-j.j < length a.ix.now → get_or a.ix.now c.loop-j.j 0 < a.n = λ h. all_at (names) c.loop-j.j h in
+    let named : let a = c.args in c.loop-j.j < length a.ix.now → get_or a.ix.now c.loop-j.j 0 < a.n = λ h. all_at names c.loop-j.j h in
     let chosen : c.choose-at.result < c.args.n = let a = c.args in
     let h : get_or a.ix.now c.loop-j.j 0 < a.n = named (omega arith) in
     let q : c.choose-at.result ≤ a.n - 1 = subst (λ (k : ℕ). k ≤ a.n - 1) (sym c.choose-at.ensures) (choose_le c.valued-has.result _ c.loop-j.at (a.n - 1) (omega arith) c.loop-j.invariant.3) in

@@ -18,9 +18,9 @@ same_anchor-requires c =
 pub returns-then-not-same_anchor : goal.returns-then-not-same_anchor
 returns-then-not-same_anchor c =
     let has : Installed c.args.s.now = installs_some _ c.requires (sym c.is_installed.ensures ∙ c.if-not-is_installed.false) in
-    guard_other _ _ (has) (sym c.same_anchor.ensures ∙ c.if-not-same_anchor.true)
+    guard_other _ _ has (sym c.same_anchor.ensures ∙ c.if-not-same_anchor.true)
 
 pub returns : goal.returns
 returns c =
     let has : Installed c.args.s.now = installs_some _ c.requires (sym c.is_installed.ensures ∙ c.if-not-is_installed.false) in
-    guard_this _ _ (has) (sym c.same_anchor.ensures ∙ c.if-not-same_anchor.false)
+    guard_this _ _ has (sym c.same_anchor.ensures ∙ c.if-not-same_anchor.false)

@@ -19,9 +19,9 @@ same_lent-requires c =
 pub returns-then-not-same_lent : goal.returns-then-not-same_lent
 returns-then-not-same_lent c =
     let has : Installed c.args.s.now = installs_some _ c.requires.0 (sym c.is_installed.ensures ∙ c.if-not-is_installed.false) in
-    guard_other _ _ (has) (sym c.same_lent.ensures ∙ c.if-not-same_lent.true)
+    guard_other _ _ has (sym c.same_lent.ensures ∙ c.if-not-same_lent.true)
 
 pub returns : goal.returns
 returns c =
     let has : Installed c.args.s.now = installs_some _ c.requires.0 (sym c.is_installed.ensures ∙ c.if-not-is_installed.false) in
-    guard_this _ _ (has) (sym c.same_lent.ensures ∙ c.if-not-same_lent.false)
+    guard_this _ _ has (sym c.same_lent.ensures ∙ c.if-not-same_lent.false)

@@ -52,7 +52,7 @@ returns-then-read_u64-eq0 c =
     let a = c.args in
     let k : BlockHash = (generation_of a.s.now).anchor.hash in
     let w : GenerationBytes a.s.now _ _ = generation_in a.s.now c.requires in
-    none_against k _ c.read_u64-2.result (c.read_u64-2.ensures ∙ w.hash_word 0 (lit< tt)) c.if-read_u64-eq0.true ∙ ap (hash_eqb k) (sym (told)) ∙ past1
+    none_against k _ c.read_u64-2.result (c.read_u64-2.ensures ∙ w.hash_word 0 (lit< tt)) c.if-read_u64-eq0.true ∙ ap (hash_eqb k) (sym told) ∙ past1
 
 pub same_u256-requires : goal.same_u256-requires
 same_u256-requires c = omega (arith, header c.requires)
@@ -68,4 +68,4 @@ returns c =
     let read = c.read_u64-2 in
     c.same_u256.ensures
     ∙ known_against k _ read.result _ _ _ _ (read.ensures ∙ w.hash_word 0 (lit< tt)) c.if-read_u64-eq0.false (w.hash_word 1 (lit< tt)) (w.hash_word 2 (lit< tt)) (w.hash_word 3 (lit< tt)) (w.hash_word 4 (lit< tt))
-    ∙ ap (hash_eqb k) (sym (told)) ∙ past1
+    ∙ ap (hash_eqb k) (sym told) ∙ past1

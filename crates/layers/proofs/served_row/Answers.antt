@@ -15,7 +15,7 @@ overflow_add-top_start c =
     let found : let a = c.args in First a.slot (chain (generation_of a.s.now)) c.layers-n.result (c.top_start.result + c.in-At.i) a.s.now = let i = c.in-At.i in
     let e : c.args.place ≡ FoundAt i = search rules in
     first_top c.args.s.now c.args.slot _ _ i _ c.requires.0 c.layers-n.ensures c.top_start.ensures c.requires.1 e in
-    omega (arith, (found).room)
+    omega (arith, found.room)
 
 pub served-requires : goal.served-requires
 served-requires c =

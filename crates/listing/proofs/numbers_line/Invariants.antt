@@ -1,4 +1,4 @@
--- `listing::numbers_line` meets its contract. Assumes nothing.
+-- The loop of `listing::numbers_line`: what it keeps, and its measure.
 use Prim.Native.Nat.{◌+◌, ◌-◌, ◌≤◌}
 use mathlib.Core.Path.{◌≡◌}
 use lib.ListN.{length, drop}
@@ -6,7 +6,6 @@ use Rattle.words.specs.Parts.{placed}
 use Rattle.listing.proofs.Fields.{fields}
 use Rattle.listing.proofs.numbers_line.Given as goal
 
--- `listing::numbers_line` meets its contract. Assumes nothing.
 abbrev pub invariant-loop-i : goal.invariant-loop-i
 invariant-loop-i l = (l.i ≤ length l.numbers)
     × (length l.out ≡ length l.initial.out)

@@ -43,19 +43,19 @@ pub slot-t-requires : goal.slot-t-requires
 slot-t-requires c =
     let fits : let a = c.args in slot_enough a.hash.now a.slot.now a.reply.now ≡ true = fit c.slot_enough.ensures c.if-not-slot_enough.false in
     let a = c.args in
-    slot_long a.hash.now a.reply.now a.slot.now (fits)
+    slot_long a.hash.now a.reply.now a.slot.now fits
 
 pub guard_lent-n-requires : goal.guard_lent-n-requires
 guard_lent-n-requires c =
     let fits : let a = c.args in slot_enough a.hash.now a.slot.now a.reply.now ≡ true = fit c.slot_enough.ensures c.if-not-slot_enough.false in
     let a = c.args in
-    (decoded_some _ c.requires, λ z. full_long a.hash.now z (anchored_hash a.hash.now a.reply.now (slot_anchored a.hash.now a.reply.now a.slot.now (fits))))
+    (decoded_some _ c.requires, λ z. full_long a.hash.now z (anchored_hash a.hash.now a.reply.now (slot_anchored a.hash.now a.reply.now a.slot.now fits)))
 
 pub returns-then-n-ne0 : goal.returns-then-n-ne0
 returns-then-n-ne0 c =
     let fits : let a = c.args in slot_enough a.hash.now a.slot.now a.reply.now ≡ true = fit c.slot_enough.ensures c.if-not-slot_enough.false in
     let a = c.args in (
-      exported a.s.now a.reply.now _ {fits = slot_enough a.hash.now a.slot.now a.reply.now} (fits) (refused_gives c.guard_lent-n.result refl)
+      exported a.s.now a.reply.now _ {fits = slot_enough a.hash.now a.slot.now a.reply.now} fits (refused_gives c.guard_lent-n.result refl)
           (by_guard a.s.now (lent_anchor a.number a.hash.now) c.guard_lent-n.result (plain_get (slot_of a.slot.now)) (decoded_some _ c.requires) c.guard_lent-n.ensures c.if-n-ne0.true),
       c.requires,
     )
@@ -63,20 +63,20 @@ returns-then-n-ne0 c =
 pub top_number-requires : goal.top_number-requires
 top_number-requires c =
     let here : let a = c.args in Here a.s.now (lent_anchor a.number a.hash.now) = past_guard _ _ (decoded_some _ c.requires) (sym c.guard_lent-n.ensures ∙ c.if-n-ne0.false) in
-    (here).has
+    here.has
 
 pub served_row-found-requires : goal.served_row-found-requires
 served_row-found-requires c =
     let here : let a = c.args in Here a.s.now (lent_anchor a.number a.hash.now) = past_guard _ _ (decoded_some _ c.requires) (sym c.guard_lent-n.ensures ∙ c.if-n-ne0.false) in
     let place : let a = c.args in c.place_of-place.result ≡ place_in c.slot-t.result (generation_of a.s.now).top = let a = c.args in
     c.place_of-place.ensures (place_in c.slot-t.result (generation_of a.s.now).top) c.top_number.ensures in
-    ((here).has, place)
+    (here.has, place)
 
 pub write_no_value-requires : goal.write_no_value-requires
 write_no_value-requires c =
     let fits : let a = c.args in slot_enough a.hash.now a.slot.now a.reply.now ≡ true = fit c.slot_enough.ensures c.if-not-slot_enough.false in
     let reply-long : let a = c.args in reply_size ≤ length a.reply.now = let a = c.args in
-    anchored_reply a.hash.now a.reply.now (slot_anchored a.hash.now a.reply.now a.slot.now (fits)) in
+    anchored_reply a.hash.now a.reply.now (slot_anchored a.hash.now a.reply.now a.slot.now fits) in
     reply-long
 
 pub returns-then-found-eq0 : goal.returns-then-found-eq0
@@ -90,15 +90,15 @@ returns-then-found-eq0 c =
     let a = c.args in
     let s = a.s.now in
     let z = c.served_row-found.ensures.0 c.if-found-eq0.true in (
-      exported s a.reply.now _ {fits = slot_enough a.hash.now a.slot.now a.reply.now} (fits) (valued_gives none c.write_no_value.ensures)
-          (said _ _ (got_none s (known_bytes s c.slice_known-1.given) (lent_anchor a.number a.hash.now) (here) c.slot-t.result none z refl)),
+      exported s a.reply.now _ {fits = slot_enough a.hash.now a.slot.now a.reply.now} fits (valued_gives none c.write_no_value.ensures)
+          (said _ _ (got_none s (known_bytes s c.slice_known-1.given) (lent_anchor a.number a.hash.now) here c.slot-t.result none z refl)),
       c.requires,
     )
 
 pub has_room-requires : goal.has_room-requires
 has_room-requires c =
     let here : let a = c.args in Here a.s.now (lent_anchor a.number a.hash.now) = past_guard _ _ (decoded_some _ c.requires) (sym c.guard_lent-n.ensures ∙ c.if-n-ne0.false) in
-    (here).has
+    here.has
 
 pub returns-then-not-has_room : goal.returns-then-not-has_room
 returns-then-not-has_room c =
@@ -115,8 +115,8 @@ returns-then-not-has_room c =
     let a = c.args in
     let s = a.s.now in
     let h = found in (
-      exported s a.reply.now _ {fits = slot_enough a.hash.now a.slot.now a.reply.now} (fits) (refused_gives 23 refl)
-          (said _ _ (got_full s (known_bytes s c.slice_known-1.given) (lent_anchor a.number a.hash.now) (here) c.slot-t.result (own_value (row_content (c.served_row-found.result - 1) s)) h.value_is h.has _ (place) (room_no _ _ _ c.has_room.ensures c.if-not-has_room.true))),
+      exported s a.reply.now _ {fits = slot_enough a.hash.now a.slot.now a.reply.now} fits (refused_gives 23 refl)
+          (said _ _ (got_full s (known_bytes s c.slice_known-1.given) (lent_anchor a.number a.hash.now) here c.slot-t.result (own_value (row_content (c.served_row-found.result - 1) s)) h.value_is h.has _ place (room_no _ _ _ c.has_room.ensures c.if-not-has_room.true))),
       c.requires,
     )
 
@@ -126,7 +126,7 @@ write_row-requires c =
     value_at c.served_row-found.result _ a.s.now c.served_row-found.ensures c.if-found-eq0.false in
     let fits : let a = c.args in slot_enough a.hash.now a.slot.now a.reply.now ≡ true = fit c.slot_enough.ensures c.if-not-slot_enough.false in
     let reply-long : let a = c.args in reply_size ≤ length a.reply.now = let a = c.args in
-    anchored_reply a.hash.now a.reply.now (slot_anchored a.hash.now a.reply.now a.slot.now (fits)) in
+    anchored_reply a.hash.now a.reply.now (slot_anchored a.hash.now a.reply.now a.slot.now fits) in
     let h = found in
     (reply-long, h.room, h.has)
 
@@ -136,7 +136,7 @@ touch_top-requires c =
     let place : let a = c.args in c.place_of-place.result ≡ place_in c.slot-t.result (generation_of a.s.now).top = let a = c.args in
     c.place_of-place.ensures (place_in c.slot-t.result (generation_of a.s.now).top) c.top_number.ensures in
     let ready : let a = c.args in Placed c.place_of-place.result c.slot-t.result a.s.now = record {
-      installed = (here).has;
+      installed = here.has;
       place_is = place;
       room = room_yes _ _ _ c.has_room.ensures c.if-not-has_room.false;
     } in
@@ -150,7 +150,7 @@ returns c =
     let place : let a = c.args in c.place_of-place.result ≡ place_in c.slot-t.result (generation_of a.s.now).top = let a = c.args in
     c.place_of-place.ensures (place_in c.slot-t.result (generation_of a.s.now).top) c.top_number.ensures in
     let ready : let a = c.args in Placed c.place_of-place.result c.slot-t.result a.s.now = record {
-      installed = (here).has;
+      installed = here.has;
       place_is = place;
       room = room_yes _ _ _ c.has_room.ensures c.if-not-has_room.false;
     } in
@@ -164,7 +164,7 @@ returns c =
     let h = found in
     let o = own_value (row_content (c.served_row-found.result - 1) s) in
     let p = ready in
-    let done = said _ _ (with_bytes {x = overlay (topped (store_of s).config (generation_of s) (touched_top (generation_of s) c.slot-t.result)) s} c.touch_top.ensures (got s (known_bytes s c.slice_known-1.given) (lent_anchor a.number a.hash.now) (here) c.slot-t.result o h.value_is h.has _ p.place_is p.room)) in (
-      exported s a.reply.now _ {fits = slot_enough a.hash.now a.slot.now a.reply.now} (fits) (valued_gives o c.write_row.ensures) done,
+    let done = said _ _ (with_bytes {x = overlay (topped (store_of s).config (generation_of s) (touched_top (generation_of s) c.slot-t.result)) s} c.touch_top.ensures (got s (known_bytes s c.slice_known-1.given) (lent_anchor a.number a.hash.now) here c.slot-t.result o h.value_is h.has _ p.place_is p.room)) in (
+      exported s a.reply.now _ {fits = slot_enough a.hash.now a.slot.now a.reply.now} fits (valued_gives o c.write_row.ensures) done,
       keeps s (alone (on_store (at_anchor (lent_anchor a.number a.hash.now) (on_slot (get (slot_of a.slot.now)))))) (slot_of_fits a.slot.now (known_bytes a.slot.now c.type_inv.slot)) done.bytes_is c.requires,
     )

@@ -38,38 +38,38 @@ pub slot-t-requires : goal.slot-t-requires
 slot-t-requires c =
     let fits : let a = c.args in slot_enough a.hash.now a.slot.now a.reply.now ≡ true = fit c.slot_enough.ensures c.if-not-slot_enough.false in
     let a = c.args in
-    slot_long a.hash.now a.reply.now a.slot.now (fits)
+    slot_long a.hash.now a.reply.now a.slot.now fits
 
 pub guard_lent-n-requires : goal.guard_lent-n-requires
 guard_lent-n-requires c =
     let fits : let a = c.args in slot_enough a.hash.now a.slot.now a.reply.now ≡ true = fit c.slot_enough.ensures c.if-not-slot_enough.false in
     let a = c.args in
-    (decoded_some _ c.requires, λ z. full_long a.hash.now z (anchored_hash a.hash.now a.reply.now (slot_anchored a.hash.now a.reply.now a.slot.now (fits))))
+    (decoded_some _ c.requires, λ z. full_long a.hash.now z (anchored_hash a.hash.now a.reply.now (slot_anchored a.hash.now a.reply.now a.slot.now fits)))
 
 pub returns-then-n-ne0 : goal.returns-then-n-ne0
 returns-then-n-ne0 c =
     let fits : let a = c.args in slot_enough a.hash.now a.slot.now a.reply.now ≡ true = fit c.slot_enough.ensures c.if-not-slot_enough.false in
     let a = c.args in
-    exported a.s.now a.reply.now _ {fits = slot_enough a.hash.now a.slot.now a.reply.now} (fits) (refused_gives c.guard_lent-n.result refl)
+    exported a.s.now a.reply.now _ {fits = slot_enough a.hash.now a.slot.now a.reply.now} fits (refused_gives c.guard_lent-n.result refl)
     (by_guard a.s.now (lent_anchor a.number a.hash.now) c.guard_lent-n.result (plain_look (slot_of a.slot.now)) (decoded_some _ c.requires) c.guard_lent-n.ensures c.if-n-ne0.true)
 
 pub top_number-requires : goal.top_number-requires
 top_number-requires c =
     let here : let a = c.args in Here a.s.now (lent_anchor a.number a.hash.now) = past_guard _ _ (decoded_some _ c.requires) (sym c.guard_lent-n.ensures ∙ c.if-n-ne0.false) in
-    (here).has
+    here.has
 
 pub served_row-found-requires : goal.served_row-found-requires
 served_row-found-requires c =
     let here : let a = c.args in Here a.s.now (lent_anchor a.number a.hash.now) = past_guard _ _ (decoded_some _ c.requires) (sym c.guard_lent-n.ensures ∙ c.if-n-ne0.false) in
     let found : let a = c.args in c.place_of-place.result ≡ place_in c.slot-t.result (generation_of a.s.now).top = let a = c.args in
     c.place_of-place.ensures (place_in c.slot-t.result (generation_of a.s.now).top) c.top_number.ensures in
-    ((here).has, found)
+    (here.has, found)
 
 pub write_no_value-requires : goal.write_no_value-requires
 write_no_value-requires c =
     let fits : let a = c.args in slot_enough a.hash.now a.slot.now a.reply.now ≡ true = fit c.slot_enough.ensures c.if-not-slot_enough.false in
     let reply-long : let a = c.args in reply_size ≤ length a.reply.now = let a = c.args in
-    anchored_reply a.hash.now a.reply.now (slot_anchored a.hash.now a.reply.now a.slot.now (fits)) in
+    anchored_reply a.hash.now a.reply.now (slot_anchored a.hash.now a.reply.now a.slot.now fits) in
     reply-long
 
 pub returns-then-found-eq0 : goal.returns-then-found-eq0
@@ -81,16 +81,16 @@ returns-then-found-eq0 c =
     → Stepped (ok (value_report o)) a.s.now (bytes_step a.s.now (alone (on_store (at_anchor (lent_anchor a.number a.hash.now) (on_slot (look (slot_of a.slot.now))))))) = λ o e. let a = c.args in
     let s = a.s.now in
     stepped_as (ap (λ (y : Slot). bytes_step s (alone (on_store (at_anchor (lent_anchor a.number a.hash.now) (on_slot (look y)))))) c.slot-t.ensures)
-    (looked s (known_bytes s c.type_inv.s) (lent_anchor a.number a.hash.now) (here) c.slot-t.result o e) in
+    (looked s (known_bytes s c.type_inv.s) (lent_anchor a.number a.hash.now) here c.slot-t.result o e) in
     let a = c.args in
-    exported a.s.now a.reply.now _ {fits = slot_enough a.hash.now a.slot.now a.reply.now} (fits) (valued_gives none c.write_no_value.ensures)
+    exported a.s.now a.reply.now _ {fits = slot_enough a.hash.now a.slot.now a.reply.now} fits (valued_gives none c.write_no_value.ensures)
     (said none (c.served_row-found.ensures.0 c.if-found-eq0.true))
 
 pub write_row-requires : goal.write_row-requires
 write_row-requires c =
     let fits : let a = c.args in slot_enough a.hash.now a.slot.now a.reply.now ≡ true = fit c.slot_enough.ensures c.if-not-slot_enough.false in
     let reply-long : let a = c.args in reply_size ≤ length a.reply.now = let a = c.args in
-    anchored_reply a.hash.now a.reply.now (slot_anchored a.hash.now a.reply.now a.slot.now (fits)) in
+    anchored_reply a.hash.now a.reply.now (slot_anchored a.hash.now a.reply.now a.slot.now fits) in
     let a = c.args in
     let h = value_at c.served_row-found.result _ a.s.now c.served_row-found.ensures c.if-found-eq0.false in
     (reply-long, h.room, h.has)
@@ -104,9 +104,9 @@ returns c =
     → Stepped (ok (value_report o)) a.s.now (bytes_step a.s.now (alone (on_store (at_anchor (lent_anchor a.number a.hash.now) (on_slot (look (slot_of a.slot.now))))))) = λ o e. let a = c.args in
     let s = a.s.now in
     stepped_as (ap (λ (y : Slot). bytes_step s (alone (on_store (at_anchor (lent_anchor a.number a.hash.now) (on_slot (look y)))))) c.slot-t.ensures)
-    (looked s (known_bytes s c.type_inv.s) (lent_anchor a.number a.hash.now) (here) c.slot-t.result o e) in
+    (looked s (known_bytes s c.type_inv.s) (lent_anchor a.number a.hash.now) here c.slot-t.result o e) in
     let a = c.args in
     let h = value_at c.served_row-found.result _ a.s.now c.served_row-found.ensures c.if-found-eq0.false in
     let o = own_value (row_content (c.served_row-found.result - 1) a.s.now) in
-    exported a.s.now a.reply.now _ {fits = slot_enough a.hash.now a.slot.now a.reply.now} (fits) (valued_gives o c.write_row.ensures)
+    exported a.s.now a.reply.now _ {fits = slot_enough a.hash.now a.slot.now a.reply.now} fits (valued_gives o c.write_row.ensures)
     (said o h.value_is)

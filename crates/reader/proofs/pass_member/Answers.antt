@@ -17,7 +17,7 @@ read_form-requires c =
     let s = a.s.now in
     let e : c.read_slot.result ≡ slot.Value c.in-Value.field-0 c.in-Value.form = search rules in
     got (slot_answer s) slot_next e c.read_slot.ensures in
-    (slot_read).within
+    slot_read.within
 
 pub pass_value-requires : goal.pass_value-requires
 pass_value-requires c =
@@ -26,7 +26,7 @@ pass_value-requires c =
     let s = a.s.now in
     let e : c.read_form.result ≡ form.Value c.in-Value-read_form.valued c.in-Value-read_form.value = search rules in
     got (form_answer s) form_next e c.read_form.ensures in
-    (form_read).within
+    form_read.within
 
 pub returns-in-Value-read_form : goal.returns-in-Value-read_form
 returns-in-Value-read_form c =
@@ -41,7 +41,7 @@ returns-in-Value-read_form c =
     let e : c.read_form.result ≡ form.Value c.in-Value-read_form.valued c.in-Value-read_form.value = search rules in
     got (form_answer s) form_next e c.read_form.ensures in
     let a = c.args in
-    reading_as (past_one (drop a.c.at a.s.now)) (reading_then _ (slot_read) (reading_then _ (form_read) c.pass_value.ensures))
+    reading_as (past_one (drop a.c.at a.s.now)) (reading_then _ slot_read (reading_then _ form_read c.pass_value.ensures))
 
 pub returns-in-Fault-read_form : goal.returns-in-Fault-read_form
 returns-in-Fault-read_form c =
@@ -55,7 +55,7 @@ returns-in-Fault-read_form c =
     let e : c.read_form.result ≡ form.Fault c.in-Fault-read_form.n c.in-Fault-read_form.place = search rules in
     got (form_answer s) form_next e c.read_form.ensures in
     let a = c.args in
-    reading_as (past_one (drop a.c.at a.s.now)) (reading_then _ (slot_read) (reading_stop _ (form-fault)))
+    reading_as (past_one (drop a.c.at a.s.now)) (reading_then _ slot_read (reading_stop _ form-fault))
 
 pub returns-in-Fault : goal.returns-in-Fault
 returns-in-Fault c =
@@ -64,4 +64,4 @@ returns-in-Fault c =
     let e : c.read_slot.result ≡ slot.Fault c.in-Fault.n c.in-Fault.place = search rules in
     got (slot_answer s) slot_next e c.read_slot.ensures in
     let a = c.args in
-    reading_as (past_one (drop a.c.at a.s.now)) (reading_stop _ (slot-fault))
+    reading_as (past_one (drop a.c.at a.s.now)) (reading_stop _ slot-fault)

@@ -19,7 +19,7 @@ returns-in-Value c =
     got (word_answer s) word_next e c.read_u256.ensures in
     let a = c.args in
     let s = a.s.now in
-    reading_as (ap (λ (b : Bool). past_value b (drop a.c.at s)) (sym c.if-valued.true)) (reading_map _ (reading_map _ (value_read)))
+    reading_as (ap (λ (b : Bool). past_value b (drop a.c.at s)) (sym c.if-valued.true)) (reading_map _ (reading_map _ value_read))
 
 pub returns-in-Fault : goal.returns-in-Fault
 returns-in-Fault c =
@@ -29,7 +29,7 @@ returns-in-Fault c =
     got (word_answer s) word_next e c.read_u256.ensures in
     let a = c.args in
     let s = a.s.now in
-    reading_as (ap (λ (b : Bool). past_value b (drop a.c.at s)) (sym c.if-valued.true)) (reading_stop _ (reading_stop _ (value-fault)))
+    reading_as (ap (λ (b : Bool). past_value b (drop a.c.at s)) (sym c.if-valued.true)) (reading_stop _ (reading_stop _ value-fault))
 
 pub returns-else-valued : goal.returns-else-valued
 returns-else-valued c =

@@ -15,7 +15,7 @@ read_form-requires c =
     Reading (parsed c.in-Value.number (drop c.in-Value.form.at s)) (parse_number (drop a.c.at s)) a.c.at c.in-Value.form.at (length s) = let s = c.args.s.now in
     let e : c.read_number.result ≡ number.Value c.in-Value.number c.in-Value.form = search rules in
     got (number_answer s) number_next e c.read_number.ensures in
-    (number_read).within
+    number_read.within
 
 pub read_hash-requires : goal.read_hash-requires
 read_hash-requires c =
@@ -23,7 +23,7 @@ read_hash-requires c =
     Reading (parsed c.in-Value-read_form.known (drop c.in-Value-read_form.next.at s)) (parse_form (drop c.in-Value.form.at s)) c.in-Value.form.at c.in-Value-read_form.next.at (length s) = let s = c.args.s.now in
     let e : c.read_form.result ≡ form.Value c.in-Value-read_form.known c.in-Value-read_form.next = search rules in
     got (form_answer s) form_next e c.read_form.ensures in
-    (form_read).within
+    form_read.within
 
 pub returns-in-Value-read_form : goal.returns-in-Value-read_form
 returns-in-Value-read_form c =
@@ -35,7 +35,7 @@ returns-in-Value-read_form c =
     Reading (parsed c.in-Value-read_form.known (drop c.in-Value-read_form.next.at s)) (parse_form (drop c.in-Value.form.at s)) c.in-Value.form.at c.in-Value-read_form.next.at (length s) = let s = c.args.s.now in
     let e : c.read_form.result ≡ form.Value c.in-Value-read_form.known c.in-Value-read_form.next = search rules in
     got (form_answer s) form_next e c.read_form.ensures in
-    reading_then _ (number_read) (reading_then _ (form_read) c.read_hash.ensures)
+    reading_then _ number_read (reading_then _ form_read c.read_hash.ensures)
 
 pub returns-in-Fault-read_form : goal.returns-in-Fault-read_form
 returns-in-Fault-read_form c =
@@ -47,7 +47,7 @@ returns-in-Fault-read_form c =
     Reading (fault c.in-Fault-read_form.n (drop c.in-Fault-read_form.place.at s)) (parse_form (drop c.in-Value.form.at s)) c.in-Value.form.at c.in-Fault-read_form.place.at (length s) = let s = c.args.s.now in
     let e : c.read_form.result ≡ form.Fault c.in-Fault-read_form.n c.in-Fault-read_form.place = search rules in
     got (form_answer s) form_next e c.read_form.ensures in
-    reading_then _ (number_read) (reading_stop _ (form-fault))
+    reading_then _ number_read (reading_stop _ form-fault)
 
 pub returns-in-Fault : goal.returns-in-Fault
 returns-in-Fault c =
@@ -55,4 +55,4 @@ returns-in-Fault c =
     Reading (fault c.in-Fault.n (drop c.in-Fault.place.at s)) (parse_number (drop a.c.at s)) a.c.at c.in-Fault.place.at (length s) = let s = c.args.s.now in
     let e : c.read_number.result ≡ number.Fault c.in-Fault.n c.in-Fault.place = search rules in
     got (number_answer s) number_next e c.read_number.ensures in
-    reading_stop _ (number-fault)
+    reading_stop _ number-fault

@@ -15,7 +15,7 @@ pass_entries-requires c =
     let s = a.s.now in
     let e : c.read_number.result ≡ number.Value c.in-Value.count c.in-Value.next = search rules in
     got (number_answer s) number_next e c.read_number.ensures in
-    ((count_read).within, search rules)
+    (count_read.within, search rules)
 
 pub returns-in-Value : goal.returns-in-Value
 returns-in-Value c =
@@ -24,7 +24,7 @@ returns-in-Value c =
     let s = a.s.now in
     let e : c.read_number.result ≡ number.Value c.in-Value.count c.in-Value.next = search rules in
     got (number_answer s) number_next e c.read_number.ensures in
-    record { reading = reading_then _ (count_read) c.pass_entries.ensures.reading; spans = c.pass_entries.ensures.spans }
+    record { reading = reading_then _ count_read c.pass_entries.ensures.reading; spans = c.pass_entries.ensures.spans }
 
 pub returns-in-Fault : goal.returns-in-Fault
 returns-in-Fault c =
@@ -32,4 +32,4 @@ returns-in-Fault c =
     Reading (fault c.in-Fault.n (drop c.in-Fault.place.at s)) (parse_number (drop a.c.at s)) a.c.at c.in-Fault.place.at (length s) = let s = c.args.s.now in
     let e : c.read_number.result ≡ number.Fault c.in-Fault.n c.in-Fault.place = search rules in
     got (number_answer s) number_next e c.read_number.ensures in
-    record { reading = reading_stop _ (count-fault); spans = tt }
+    record { reading = reading_stop _ count-fault; spans = tt }

@@ -21,7 +21,7 @@ returns-in-Value c =
     let a = c.args in
     let s = a.s.now in
     reading_as (ap (λ (b : Bool). parse_hash a.number b (drop a.c.at s)) (sym c.if-known.true))
-    (reading_from (ap (λ x. parsed x (drop c.in-Value.next.at s)) c.identified.ensures) (reading_map (identified a.number) (hash_read)))
+    (reading_from (ap (λ x. parsed x (drop c.in-Value.next.at s)) c.identified.ensures) (reading_map (identified a.number) hash_read))
 
 pub returns-in-Fault : goal.returns-in-Fault
 returns-in-Fault c =
@@ -31,7 +31,7 @@ returns-in-Fault c =
     got (word_answer s) word_next e c.read_u256.ensures in
     let a = c.args in
     let s = a.s.now in
-    reading_as (ap (λ (b : Bool). parse_hash a.number b (drop a.c.at s)) (sym c.if-known.true)) (reading_stop _ (hash-fault))
+    reading_as (ap (λ (b : Bool). parse_hash a.number b (drop a.c.at s)) (sym c.if-known.true)) (reading_stop _ hash-fault)
 
 pub returns-else-known : goal.returns-else-known
 returns-else-known c =

@@ -1,11 +1,10 @@
--- `reader::read_number` meets its contract. Assumes nothing.
+-- The loop of `reader::read_number`: what it keeps, and its measure.
 use Prim.Native.Nat.{◌-◌, ◌^◌, ◌≤◌, ◌<◌}
 use mathlib.Core.Path.{◌≡◌}
 use lib.ListN.{length, drop}
 use Rattle.call_list.specs.CallList.{number_from, parse_number}
 use Rattle.reader.proofs.read_number.Given as goal
 
--- `reader::read_number` meets its contract. Assumes nothing.
 abbrev pub invariant-loop-groups_left : goal.invariant-loop-groups_left
 invariant-loop-groups_left l = (l.groups_left ≤ 9)
     × (l.initial.at ≤ l.at)

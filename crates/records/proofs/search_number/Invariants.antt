@@ -1,4 +1,4 @@
--- `records::search_number` meets its contract. Assumes nothing.
+-- The loop of `records::search_number`: what it keeps, and its measure.
 use mathlib.Core.Path.{◌≡◌}
 use mathlib.Core.Bool.{true}
 use Prim.Native.Nat.{ℕ, ◌≤◌, ◌<◌, ◌-◌}
@@ -9,7 +9,6 @@ use Rattle.records.specs.Records.{record_at, Entries}
 use Rattle.records.proofs.Places.{Below}
 use Rattle.records.proofs.search_number.Given as goal
 
--- `records::search_number` meets its contract. Assumes nothing.
 -- Of records whose slots stand in the bytes, those before lo come before the slot, and those from hi on after it.
 pub record Narrowed (slot : Slot) (n lo hi : ℕ) (l : Layer) : Type 0 where
   pub below : Below l slot lo

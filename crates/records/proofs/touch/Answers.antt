@@ -19,21 +19,21 @@ overflow_mul-i c =
     let at_i : let i = c.in-At.i in (i < c.args.n) × (c.args.n * record_size ≤ length c.args.s.now) = let i = c.in-At.i in
     let e : c.args.place ≡ At i = search rules in
     (at_lt c.args.place c.args.slot c.args.n c.args.s.now c.requires i e, at_room c.args.place c.args.slot c.args.n c.args.s.now c.requires i e) in
-    omega (arith, (at_i).0, (at_i).1)
+    omega (arith, at_i.0, at_i.1)
 
 pub overflow_add-i : goal.overflow_add-i
 overflow_add-i c =
     let at_i : let i = c.in-At.i in (i < c.args.n) × (c.args.n * record_size ≤ length c.args.s.now) = let i = c.in-At.i in
     let e : c.args.place ≡ At i = search rules in
     (at_lt c.args.place c.args.slot c.args.n c.args.s.now c.requires i e, at_room c.args.place c.args.slot c.args.n c.args.s.now c.requires i e) in
-    omega (arith, (at_i).0, (at_i).1)
+    omega (arith, at_i.0, at_i.1)
 
 pub write_u64-requires : goal.write_u64-requires
 write_u64-requires c =
     let at_i : let i = c.in-At.i in (i < c.args.n) × (c.args.n * record_size ≤ length c.args.s.now) = let i = c.in-At.i in
     let e : c.args.place ≡ At i = search rules in
     (at_lt c.args.place c.args.slot c.args.n c.args.s.now c.requires i e, at_room c.args.place c.args.slot c.args.n c.args.s.now c.requires i e) in
-    omega (arith, (at_i).0, (at_i).1)
+    omega (arith, at_i.0, at_i.1)
 
 pub insert_at-requires : goal.insert_at-requires
 insert_at-requires c =

@@ -20,13 +20,13 @@ last_below-w-requires c = (search rules, search rules, c.bucket-b.ensures.0, c.b
 pub breaks_over-requires : goal.breaks_over-requires
 breaks_over-requires c =
     let found : LastOfSlot c.args.s.now c.loop-i.i c.last_below-w.result.last = c.last_below-w.ensures (omega (arith, c.if-left-eq0.false)) in
-    (search rules, search rules, (found).low)
+    (search rules, search rules, found.low)
 
 pub returns-then-breaks_over : goal.returns-then-breaks_over
 returns-then-breaks_over c =
     let found : LastOfSlot c.args.s.now c.loop-i.i c.last_below-w.result.last = c.last_below-w.ensures (omega (arith, c.if-left-eq0.false)) in
     let a = c.args in
-    ruled_broken a.retention a.number a.top a.n c.loop-i.i c.last_below-w.result.last c.oldest-least.result c.breaks_over.result a.s.now (search rules) (found)
+    ruled_broken a.retention a.number a.top a.n c.loop-i.i c.last_below-w.result.last c.oldest-least.result c.breaks_over.result a.s.now (search rules) found
     (c.loop-i.invariant.2 a.retention c.oldest-least.ensures) c.oldest-least.ensures c.breaks_over.ensures c.if-breaks_over.true
 
 pub link-requires : goal.link-requires
@@ -38,7 +38,7 @@ loop-i-preserved c =
     let a = c.args in (
       search rules,
       c.link.ensures a.s.now c.bucket-b.ensures.0 c.loop-i.invariant.1,
-      λ R d. ruled_on R a.number a.top a.n c.loop-i.i c.last_below-w.result.last c.oldest-least.result c.breaks_over.result a.s.now (search rules) (found)
+      λ R d. ruled_on R a.number a.top a.n c.loop-i.i c.last_below-w.result.last c.oldest-least.result c.breaks_over.result a.s.now (search rules) found
           (c.loop-i.invariant.2 R d) d c.breaks_over.ensures c.if-breaks_over.false,
     )
 

@@ -1,4 +1,4 @@
--- `rules::by_table` meets its contract.
+-- The loop of `rules::by_table`: what it keeps, and its measure.
 use borrow.Author.Rules.{rules}
 use mathlib.Core.Path.{◌≡◌}
 use Prim.Native.Nat.{◌-◌, ◌≤◌}
@@ -9,7 +9,6 @@ use Rattle.rules.specs.Rules.{oldest_use}
 use Rattle.rules.proofs.LastLaws.{Ruled}
 use Rattle.rules.proofs.by_table.Given as goal
 
--- `rules::by_table` meets its contract.
 abbrev pub invariant-loop-i : goal.invariant-loop-i
 invariant-loop-i l = (l.i ≤ l.n) × Chained l.s l.i l.head l.prev × ((R : Retention) → l.least ≡ oldest_use R l.number → Ruled R l.number l.top (records_of l.n l.s) l.i)
 

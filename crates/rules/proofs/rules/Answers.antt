@@ -24,12 +24,12 @@ loop-j-init c = (search rules, search rules, omega arith)
 pub last_use-used-requires : goal.last_use-used-requires
 last_use-used-requires c =
     let names : Names c.args.n c.args.ix.now = all_ordered (numbers c.args.n c.args.s.now) (up_from 0 c.args.n) c.args.ix.now c.requires.1 (names_up c.args.n) in
-    (search rules, all_at (names) c.loop-j.j (omega arith))
+    (search rules, all_at names c.loop-j.j (omega arith))
 
 pub valued-has-requires : goal.valued-has-requires
 valued-has-requires c =
     let names : Names c.args.n c.args.ix.now = all_ordered (numbers c.args.n c.args.s.now) (up_from 0 c.args.n) c.args.ix.now c.requires.1 (names_up c.args.n) in
-    (search rules, all_at (names) c.loop-j.j (omega arith))
+    (search rules, all_at names c.loop-j.j (omega arith))
 
 pub ends-requires : goal.ends-requires
 ends-requires c =
@@ -68,7 +68,7 @@ loop-j-preserved c =
     (λ u. (omega (arith, u.c-is, u.bit-c.ensures, bit_small c.either-bad.result), turn_last f unmet (λ m. m.bad) ss ix m0 c.loop-j.j h c.loop-j.c c.if-ends.c w m1 m2 c.loop-j.invariant.2 ea (sym c.ends.ensures ∙ u.if-ends.true) (u.c-is ∙ ap (λ (k : ℕ). c.loop-j.c + k) u.bit-c.ensures) (λ i. record { any = u.any-is i; low = u.low-is i; bad = u.bad-is i })))
     (λ u. (omega (arith, u.c-is), turn_more f unmet (λ m. m.bad) ss ix m0 c.loop-j.j h c.loop-j.c c.if-ends.c w m1 m2 c.loop-j.invariant.2 ea (sym c.ends.ensures ∙ u.if-ends.false) u.c-is (λ i. record { any = u.any-is i; low = u.low-is i; bad = u.bad-is i })))
     c.if-ends.branch-raw in
-    (search rules, (met).0, (met).1)
+    (search rules, met.0, met.1)
 
 pub returns : goal.returns
 returns c =

@@ -1,4 +1,4 @@
--- `rules::rules` meets its contract.
+-- The loop of `rules::rules`: what it keeps, and its measure.
 use borrow.Author.Rules.{rules}
 use mathlib.Core.Path.{◌≡◌}
 use Prim.Native.Nat.{◌+◌, ◌≤◌, ◌-◌}
@@ -9,7 +9,6 @@ use Rattle.order.proofs.WalkLaws.{walk}
 use Rattle.rules.proofs.RuleLaws.{unmet, meets}
 use Rattle.rules.proofs.rules.Given as goal
 
--- `rules::rules` meets its contract.
 abbrev pub invariant-loop-j : goal.invariant-loop-j
 invariant-loop-j l = (l.j ≤ length l.ix) × (l.c ≤ l.j)
     × (l.c + walk (meets l.least l.number l.top (records_of l.n l.s)) unmet (λ m. m.bad) (numbers l.n l.s) (record { any = l.any; low = l.low; bad = l.bad }) (drop l.j l.ix)

@@ -29,4 +29,4 @@ pub returns : goal.returns
 returns c =
     let capacity_is : c.read_u64-capacity.result ≡ (store_of c.args.s.now).config.capacity = c.read_u64-capacity.ensures ∙ (store_in _ c.requires.0).capacity_word in
     let a = c.args in
-    void_bytes (store_of a.s.now).config a.child c.read_u64-capacity.result a.work.now _ _ (capacity_is) c.write_header.ensures c.clear.ensures
+    void_bytes (store_of a.s.now).config a.child c.read_u64-capacity.result a.work.now _ _ capacity_is c.write_header.ensures c.clear.ensures

@@ -36,7 +36,7 @@ overflow_add-left c =
     let few : c.compact-folded.result.left ≤ record_count (generation_of c.args.s.now).base = let a = c.args in
     left_few a.s.now c.retention-retention.result c.installed_number-number.result c.top_start-base.result c.compact-folded.result.left c.compact-folded.result.dropped (known_bytes a.s.now c.type_inv.s)
     c.requires.0 c.retention-retention.ensures c.installed_number-number.ensures c.top_start-base.ensures c.compact-folded.ensures.1 c.compact-folded.ensures.2 in
-    omega (arith, fold_total c.args.s.now c.compact-folded.result.left c.top_count-top.result c.requires.0 (few) c.top_count-top.ensures)
+    omega (arith, fold_total c.args.s.now c.compact-folded.result.left c.top_count-top.result c.requires.0 few c.top_count-top.ensures)
 
 pub returns : goal.returns
 returns c =

@@ -1,11 +1,10 @@
--- `seed::note` meets its contract. Assumes nothing.
+-- The loop of `seed::note`: what it keeps, and its measure.
 use mathlib.Core.Path.{◌≡◌}
 use Prim.Native.Nat.{◌-◌, ◌/◌, ◌≤◌}
 use lib.ListN.{length}
 use Rattle.seed.specs.Rising.{Noted}
 use Rattle.seed.proofs.note.Given as goal
 
--- `seed::note` meets its contract. Assumes nothing.
 abbrev pub invariant-loop-i : goal.invariant-loop-i
 invariant-loop-i l = (l.i ≤ l.n) × (l.n ≡ length l.addresses / 20) × (length l.table ≡ 65536) × Noted l.i l.table l.addresses
 

@@ -1,4 +1,4 @@
--- `seed::relevant_rising` meets its contract. Assumes nothing.
+-- The loop of `seed::relevant_rising`: what it keeps, and its measure.
 use mathlib.Core.Path.{◌≡◌}
 use mathlib.Core.Bool.{true, false}
 use Prim.Native.Nat.{ℕ, ◌-◌, ◌/◌, ◌≤◌, ◌<◌}
@@ -6,7 +6,6 @@ use lib.ListN.{length}
 use Rattle.seed.specs.Rising.{address_ltb, address_in}
 use Rattle.seed.proofs.relevant_rising.Given as goal
 
--- `seed::relevant_rising` meets its contract. Assumes nothing.
 abbrev pub invariant-loop-lo : goal.invariant-loop-lo
 invariant-loop-lo l = (l.lo ≤ l.hi) × (l.hi ≤ l.n) × (l.n ≡ length l.addresses / 20) × ((j : ℕ) → j < l.lo → address_ltb (address_in j l.addresses) l.address ≡ true)
     × ((j : ℕ) → l.hi ≤ j → j < length l.addresses / 20 → address_ltb (address_in j l.addresses) l.address ≡ false)

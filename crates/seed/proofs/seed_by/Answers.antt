@@ -21,14 +21,14 @@ write_slot_of-slot-requires c =
     let here : let w = c.args.writes.now in (c.loop-i.i < length w / 84) × (c.loop-i.i * 84 + 84 ≤ length w) = let w = c.args.writes.now in
     let h : c.loop-i.i < length w / 84 = omega arith in
     (h, entry_fits 84 c.loop-i.i (length w) h) in
-    omega (arith, (here).1)
+    omega (arith, here.1)
 
 pub write_value_of-value-requires : goal.write_value_of-value-requires
 write_value_of-value-requires c =
     let here : let w = c.args.writes.now in (c.loop-i.i < length w / 84) × (c.loop-i.i * 84 + 84 ≤ length w) = let w = c.args.writes.now in
     let h : c.loop-i.i < length w / 84 = omega arith in
     (h, entry_fits 84 c.loop-i.i (length w) h) in
-    omega (arith, (here).1)
+    omega (arith, here.1)
 
 pub apply-done-requires : goal.apply-done-requires
 apply-done-requires c = (c.loop-i.invariant.3.installed, c.requires.1)
@@ -43,7 +43,7 @@ returns-in_default c =
     Wrote c.apply-done.result c.apply-done.new.s c.loop-i.s a.addresses.now w.slot w.value = let a = c.args in
     wrote_at _ _ _ _ _ _ (write_of (drop (c.loop-i.i * 84) a.writes.now)) c.write_slot_of-slot.ensures c.write_value_of-value.ensures c.apply-done.ensures in
     let a = c.args in
-    along_full a.s.now a.addresses.now a.writes.now c.loop-i.s c.loop-i.counts c.loop-i.i c.loop-i.invariant.3 _ _ (here).0 (said) c.in_default.is
+    along_full a.s.now a.addresses.now a.writes.now c.loop-i.s c.loop-i.counts c.loop-i.i c.loop-i.invariant.3 _ _ here.0 said c.in_default.is
 
 pub counted-counts-requires : goal.counted-counts-requires
 counted-counts-requires c =
@@ -71,7 +71,7 @@ loop-i-preserved c =
       search rules,
       search rules,
       search rules,
-      along_next a.s.now a.addresses.now a.writes.now c.loop-i.s c.loop-i.counts c.loop-i.i c.loop-i.invariant.3 _ _ _ (known_bytes a.writes.now c.type_inv.writes) (known_bytes c.apply-done.new.s c.type_inv.s) e.0 (said) c.in-Done.is _ c.counted-counts.ensures,
+      along_next a.s.now a.addresses.now a.writes.now c.loop-i.s c.loop-i.counts c.loop-i.i c.loop-i.invariant.3 _ _ _ (known_bytes a.writes.now c.type_inv.writes) (known_bytes c.apply-done.new.s c.type_inv.s) e.0 said c.in-Done.is _ c.counted-counts.ensures,
     )
 
 pub returns : goal.returns

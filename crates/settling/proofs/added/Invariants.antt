@@ -1,4 +1,4 @@
--- `settling::added` meets its contract. Assumes nothing.
+-- The loop of `settling::added`: what it keeps, and its measure.
 use Prim.Native.Nat.{◌+◌, ◌-◌, ◌≤◌}
 use mathlib.Core.Path.{◌≡◌}
 use lib.ListN.{length, drop}
@@ -7,7 +7,6 @@ use Rattle.image.specs.Lent.{generation_of}
 use Rattle.settling.specs.Settling.{added}
 use Rattle.settling.proofs.added.Given as goal
 
--- `settling::added` meets its contract. Assumes nothing.
 abbrev pub invariant-loop-at : goal.invariant-loop-at
 invariant-loop-at l = (l.at ≤ length l.list) × (l.k ≤ l.at) × (l.k + added (members_of (drop l.at l.list)) (generation_of l.s).top ≡ added (members_of l.list) (generation_of l.s).top)
 

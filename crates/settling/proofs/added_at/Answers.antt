@@ -23,7 +23,7 @@ returns-in-At c =
     let a = c.args in
     let s = slot_of (drop a.at a.list.now) in
     let l = (generation_of a.s.now).top in
-    mark_some a.at a.list.now (missing s l) 0 c.if-list-at-eq0.false (is_there s l _ _ (generation_in _ c.requires.0).top.rises (place) c.in-At.is)
+    mark_some a.at a.list.now (missing s l) 0 c.if-list-at-eq0.false (is_there s l _ _ (generation_in _ c.requires.0).top.rises place c.in-At.is)
 
 pub returns-in-Absent : goal.returns-in-Absent
 returns-in-Absent c =
@@ -32,4 +32,4 @@ returns-in-Absent c =
     let a = c.args in
     let s = slot_of (drop a.at a.list.now) in
     let l = (generation_of a.s.now).top in
-    mark_some a.at a.list.now (missing s l) 1 c.if-list-at-eq0.false (is_absent s l _ _ (generation_in _ c.requires.0).top.rises (place) c.in-Absent.is)
+    mark_some a.at a.list.now (missing s l) 1 c.if-list-at-eq0.false (is_absent s l _ _ (generation_in _ c.requires.0).top.rises place c.in-Absent.is)

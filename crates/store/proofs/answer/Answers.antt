@@ -32,4 +32,4 @@ returns c =
     let flags-hold : let a = c.args in
     answer_step a.s.now a.anchor a.members.now ≡ bytes_step a.s.now (alone (on_store (at_anchor a.anchor (answer (members_of a.members.now))))) = let a = c.args in
     known_flags a.s.now a.anchor a.members.now c.flags_known.result c.flags_known.ensures c.if-not-flags_known.false in
-    rw (flags-hold) c.answer.ensures
+    rw flags-hold c.answer.ensures

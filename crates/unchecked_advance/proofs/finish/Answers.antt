@@ -39,7 +39,7 @@ overflow_add-n c =
 pub copy_back-requires : goal.copy_back-requires
 copy_back-requires c =
     let fits : (records_offset + record_size * c.read_u64.result ≤ length c.args.s.now) × (c.read_u64.result ≤ 4096) = size_fits c.args.s.now c.args.work.now _ c.requires.0 c.read_u64.ensures in
-    (size_in c.args.s.now c.args.work.now _ _ _ _ c.requires.0 (seeded_done _ _ _ _ _ _ c.seed_final_writes-seeded.ensures c.in-Done.is) c.read_u64.ensures, (fits).0)
+    (size_in c.args.s.now c.args.work.now _ _ _ _ c.requires.0 (seeded_done _ _ _ _ _ _ c.seed_final_writes-seeded.ensures c.in-Done.is) c.read_u64.ensures, fits.0)
 
 pub returns : goal.returns
 returns c =

@@ -10,20 +10,20 @@ use Rattle.unchecked_advance.proofs.proceed.Goals as goal
 pub current-requires : goal.current-requires
 current-requires c =
     let here : Here c.args.s.now c.args.child = past_guard c.args.s.now c.args.child c.requires.0 (sym c.guard.ensures ∙ c.if-guard-eq0.true) in
-    (here).has
+    here.has
 
 pub returns-then-guard-eq0 : goal.returns-then-guard-eq0
 returns-then-guard-eq0 c =
     let here : Here c.args.s.now c.args.child = past_guard c.args.s.now c.args.child c.requires.0 (sym c.guard.ensures ∙ c.if-guard-eq0.true) in
     let a = c.args in
-    proceed_current a.s.now a.child a.parent_hash a.skip a.addresses.now a.writes.now _ a.out.now (known_bytes a.s.now c.slice_known-1.given) (here) (c.current.ensures a.out.now)
+    proceed_current a.s.now a.child a.parent_hash a.skip a.addresses.now a.writes.now _ a.out.now (known_bytes a.s.now c.slice_known-1.given) here (c.current.ensures a.out.now)
 
 pub carried-requires : goal.carried-requires
 carried-requires c =
     let other : Other (store_of c.args.s.now).installed c.args.child = not_here (store_of c.args.s.now).installed c.args.child _ c.guard.ensures c.if-guard-eq0.false in
     let by-carry : let a = c.args in
     Carries a.s.now a.child a.parent_hash a.skip a.addresses.now a.writes.now = let a = c.args in
-    proceed_carry a.s.now a.child a.parent_hash a.skip a.addresses.now a.writes.now c.requires.0 (other) _ _ c.classify_link-lineage.ensures c.skip_of-k.ensures (sym c.carries.ensures ∙ c.if-carries.true) in
+    proceed_carry a.s.now a.child a.parent_hash a.skip a.addresses.now a.writes.now c.requires.0 other _ _ c.classify_link-lineage.ensures c.skip_of-k.ensures (sym c.carries.ensures ∙ c.if-carries.true) in
     let b = by-carry in
     (b.has, c.requires.1, b.next, c.requires.2, c.requires.3)
 
@@ -32,13 +32,13 @@ returns-then-carries c =
     let other : Other (store_of c.args.s.now).installed c.args.child = not_here (store_of c.args.s.now).installed c.args.child _ c.guard.ensures c.if-guard-eq0.false in
     let by-carry : let a = c.args in
     Carries a.s.now a.child a.parent_hash a.skip a.addresses.now a.writes.now = let a = c.args in
-    proceed_carry a.s.now a.child a.parent_hash a.skip a.addresses.now a.writes.now c.requires.0 (other) _ _ c.classify_link-lineage.ensures c.skip_of-k.ensures (sym c.carries.ensures ∙ c.if-carries.true) in
+    proceed_carry a.s.now a.child a.parent_hash a.skip a.addresses.now a.writes.now c.requires.0 other _ _ c.classify_link-lineage.ensures c.skip_of-k.ensures (sym c.carries.ensures ∙ c.if-carries.true) in
     let a = c.args in
-    as_performed a.s.now a.child a.parent_hash a.skip a.addresses.now a.writes.now _ _ _ _ a.out.now (by-carry).performs (c.carried.ensures a.skip)
+    as_performed a.s.now a.child a.parent_hash a.skip a.addresses.now a.writes.now _ _ _ _ a.out.now by-carry.performs (c.carried.ensures a.skip)
 
 pub returns : goal.returns
 returns c =
     let other : Other (store_of c.args.s.now).installed c.args.child = not_here (store_of c.args.s.now).installed c.args.child _ c.guard.ensures c.if-guard-eq0.false in
     let a = c.args in
     as_performed a.s.now a.child a.parent_hash a.skip a.addresses.now a.writes.now _ _ _ _ a.out.now
-    (proceed_cold a.s.now a.child a.parent_hash a.skip a.addresses.now a.writes.now c.requires.0 (other) _ _ c.classify_link-lineage.ensures c.skip_of-k.ensures (sym c.carries.ensures ∙ c.if-carries.false)) (c.cold.ensures a.skip c.skip_of-k.ensures)
+    (proceed_cold a.s.now a.child a.parent_hash a.skip a.addresses.now a.writes.now c.requires.0 other _ _ c.classify_link-lineage.ensures c.skip_of-k.ensures (sym c.carries.ensures ∙ c.if-carries.false)) (c.cold.ensures a.skip c.skip_of-k.ensures)

@@ -23,7 +23,7 @@ put_one-k-requires c =
     let a = c.args in
     let h : l.i < length a.writes.now / 84 = omega arith in
     (h, entry_fits 84 l.i (length a.writes.now) h, omega (arith, l.invariant.3.few)) in
-    (c.requires.0, (here).1, (here).2)
+    (c.requires.0, here.1, here.2)
 
 pub loop-i-preserved : goal.loop-i-preserved
 loop-i-preserved c =

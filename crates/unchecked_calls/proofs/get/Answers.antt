@@ -31,12 +31,12 @@ returns-then-n-ne0 c = by_guard _ _ _ (plain_get c.args.slot) (decoded_some _ c.
 pub top_place-place-requires : goal.top_place-place-requires
 top_place-place-requires c =
     let here : let a = c.args in Here a.s.now a.anchor = past_guard _ _ (decoded_some _ c.requires) (sym c.guard-n.ensures ∙ c.if-n-ne0.false) in
-    (here).has
+    here.has
 
 pub resolved_at-requires : goal.resolved_at-requires
 resolved_at-requires c =
     let here : let a = c.args in Here a.s.now a.anchor = past_guard _ _ (decoded_some _ c.requires) (sym c.guard-n.ensures ∙ c.if-n-ne0.false) in
-    ((here).has, c.top_place-place.ensures)
+    (here.has, c.top_place-place.ensures)
 
 pub returns-in_default : goal.returns-in_default
 returns-in_default c =
@@ -50,7 +50,7 @@ returns-in_default c =
 pub has_room-requires : goal.has_room-requires
 has_room-requires c =
     let here : let a = c.args in Here a.s.now a.anchor = past_guard _ _ (decoded_some _ c.requires) (sym c.guard-n.ensures ∙ c.if-n-ne0.false) in
-    (here).has
+    here.has
 
 pub returns-then-not-has_room : goal.returns-then-not-has_room
 returns-then-not-has_room c =
@@ -64,7 +64,7 @@ returns-then-not-has_room c =
     let e = count_set g a.slot (touch g.anchor.number (find a.slot g.top)) _ c.top_place-place.ensures in
     let f = c.top_place-place.result in
     let z : (store_of s).config.capacity < count_after f (record_count (chain g)) = room_no c.has_room.result (count_after f (record_count (chain g))) (store_of s).config.capacity c.has_room.ensures c.if-not-has_room.true in
-    said_get_full s (store_of s) g (known_bytes s c.slice_known-1.given) h.has.is_store h.has.installs a.anchor a.slot h.same _ (told) (omega (arith, e, z))
+    said_get_full s (store_of s) g (known_bytes s c.slice_known-1.given) h.has.is_store h.has.installs a.anchor a.slot h.same _ told (omega (arith, e, z))
 
 pub touch_top-requires : goal.touch_top-requires
 touch_top-requires c =
@@ -95,4 +95,4 @@ returns c =
     let p = ready in
     let e = count_set g a.slot (touch g.anchor.number (find a.slot g.top)) _ p.place_is in
     with_bytes c.touch_top.ensures
-    (said_get s (store_of s) g (known_bytes s c.slice_known-1.given) h.has.is_store h.has.installs a.anchor a.slot h.same _ (told) (omega (arith, e, p.room)))
+    (said_get s (store_of s) g (known_bytes s c.slice_known-1.given) h.has.is_store h.has.installs a.anchor a.slot h.same _ told (omega (arith, e, p.room)))

@@ -27,7 +27,7 @@ returns-then-n-ne0 c = by_guard _ _ _ (plain_look c.args.slot) (decoded_some _ c
 pub resolved-requires : goal.resolved-requires
 resolved-requires c =
     let here : let a = c.args in Here a.s.now a.anchor = past_guard _ _ (decoded_some _ c.requires) (sym c.guard-n.ensures ∙ c.if-n-ne0.false) in
-    (here).has
+    here.has
 
 pub returns-in_default : goal.returns-in_default
 returns-in_default c =

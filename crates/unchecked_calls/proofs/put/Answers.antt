@@ -27,12 +27,12 @@ returns-then-n-ne0 c = by_guard _ _ _ (plain_put c.args.slot c.args.value) (deco
 pub top_place-place-requires : goal.top_place-place-requires
 top_place-place-requires c =
     let here : let a = c.args in Here a.s.now a.anchor = past_guard _ _ (decoded_some _ c.requires) (sym c.guard-n.ensures ∙ c.if-n-ne0.false) in
-    (here).has
+    here.has
 
 pub has_room-requires : goal.has_room-requires
 has_room-requires c =
     let here : let a = c.args in Here a.s.now a.anchor = past_guard _ _ (decoded_some _ c.requires) (sym c.guard-n.ensures ∙ c.if-n-ne0.false) in
-    (here).has
+    here.has
 
 pub returns-then-not-has_room : goal.returns-then-not-has_room
 returns-then-not-has_room c =

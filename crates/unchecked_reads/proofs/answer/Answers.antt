@@ -30,19 +30,19 @@ all_taken-requires c =
     let passed : let a = c.args in
     (has_duplicate (entry_slots 85 a.members.now) ≡ false) × (anchored_refusal (store_of a.s.now).installed a.anchor ≡ 0) = let a = c.args in
     past_answer_guard (entry_slots 85 a.members.now) (store_of a.s.now).installed a.anchor _ c.guard_answer-n.ensures c.if-n-ne0.false in
-    let here : let a = c.args in Here a.s.now a.anchor = past_guard _ _ (decoded_some _ c.requires) (passed).1 in
-    ((here).has, omega arith)
+    let here : let a = c.args in Here a.s.now a.anchor = past_guard _ _ (decoded_some _ c.requires) passed.1 in
+    (here.has, omega arith)
 
 pub returns-then-not-all_taken : goal.returns-then-not-all_taken
 returns-then-not-all_taken c =
     let passed : let a = c.args in
     (has_duplicate (entry_slots 85 a.members.now) ≡ false) × (anchored_refusal (store_of a.s.now).installed a.anchor ≡ 0) = let a = c.args in
     past_answer_guard (entry_slots 85 a.members.now) (store_of a.s.now).installed a.anchor _ c.guard_answer-n.ensures c.if-n-ne0.false in
-    let here : let a = c.args in Here a.s.now a.anchor = past_guard _ _ (decoded_some _ c.requires) (passed).1 in
-    let once : has_duplicate (entry_slots 85 c.args.members.now) ≡ false = (passed).0 in
+    let here : let a = c.args in Here a.s.now a.anchor = past_guard _ _ (decoded_some _ c.requires) passed.1 in
+    let once : has_duplicate (entry_slots 85 c.args.members.now) ≡ false = passed.0 in
     let a = c.args in
-    let h = (here).has in
-    stepped (answer_26 a.s.now a.anchor (here) (members_of a.members.now) (distinct a.s.now h a.members.now (once))
+    let h = here.has in
+    stepped (answer_26 a.s.now a.anchor here (members_of a.members.now) (distinct a.s.now h a.members.now once)
     (taken_members a.s.now h a.members.now false (sym c.all_taken.ensures ∙ c.if-not-all_taken.true)))
 
 pub has_space-requires : goal.has_space-requires
@@ -50,38 +50,38 @@ has_space-requires c =
     let passed : let a = c.args in
     (has_duplicate (entry_slots 85 a.members.now) ≡ false) × (anchored_refusal (store_of a.s.now).installed a.anchor ≡ 0) = let a = c.args in
     past_answer_guard (entry_slots 85 a.members.now) (store_of a.s.now).installed a.anchor _ c.guard_answer-n.ensures c.if-n-ne0.false in
-    let here : let a = c.args in Here a.s.now a.anchor = past_guard _ _ (decoded_some _ c.requires) (passed).1 in
-    let once : has_duplicate (entry_slots 85 c.args.members.now) ≡ false = (passed).0 in
-    ((here).has, once)
+    let here : let a = c.args in Here a.s.now a.anchor = past_guard _ _ (decoded_some _ c.requires) passed.1 in
+    let once : has_duplicate (entry_slots 85 c.args.members.now) ≡ false = passed.0 in
+    (here.has, once)
 
 pub returns-then-not-has_space : goal.returns-then-not-has_space
 returns-then-not-has_space c =
     let passed : let a = c.args in
     (has_duplicate (entry_slots 85 a.members.now) ≡ false) × (anchored_refusal (store_of a.s.now).installed a.anchor ≡ 0) = let a = c.args in
     past_answer_guard (entry_slots 85 a.members.now) (store_of a.s.now).installed a.anchor _ c.guard_answer-n.ensures c.if-n-ne0.false in
-    let here : let a = c.args in Here a.s.now a.anchor = past_guard _ _ (decoded_some _ c.requires) (passed).1 in
-    let once : has_duplicate (entry_slots 85 c.args.members.now) ≡ false = (passed).0 in
+    let here : let a = c.args in Here a.s.now a.anchor = past_guard _ _ (decoded_some _ c.requires) passed.1 in
+    let once : has_duplicate (entry_slots 85 c.args.members.now) ≡ false = passed.0 in
     let taken : let a = c.args in all_taken (entry_slots 85 a.members.now) (generation_of a.s.now).pending ≡ true = sym c.all_taken.ensures ∙ c.if-not-all_taken.false in
     let a = c.args in
-    let h = (here).has in
-    stepped (answer_23 a.s.now a.anchor (here) (members_of a.members.now) (distinct a.s.now h a.members.now (once))
-    (taken_members a.s.now h a.members.now true (taken)) (leb-false _ _ (sym c.has_space.ensures ∙ c.if-not-has_space.true)))
+    let h = here.has in
+    stepped (answer_23 a.s.now a.anchor here (members_of a.members.now) (distinct a.s.now h a.members.now once)
+    (taken_members a.s.now h a.members.now true taken) (leb-false _ _ (sym c.has_space.ensures ∙ c.if-not-has_space.true)))
 
 pub finish-requires : goal.finish-requires
 finish-requires c =
     let passed : let a = c.args in
     (has_duplicate (entry_slots 85 a.members.now) ≡ false) × (anchored_refusal (store_of a.s.now).installed a.anchor ≡ 0) = let a = c.args in
     past_answer_guard (entry_slots 85 a.members.now) (store_of a.s.now).installed a.anchor _ c.guard_answer-n.ensures c.if-n-ne0.false in
-    let here : let a = c.args in Here a.s.now a.anchor = past_guard _ _ (decoded_some _ c.requires) (passed).1 in
-    let once : has_duplicate (entry_slots 85 c.args.members.now) ≡ false = (passed).0 in
+    let here : let a = c.args in Here a.s.now a.anchor = past_guard _ _ (decoded_some _ c.requires) passed.1 in
+    let once : has_duplicate (entry_slots 85 c.args.members.now) ≡ false = passed.0 in
     let taken : let a = c.args in all_taken (entry_slots 85 a.members.now) (generation_of a.s.now).pending ≡ true = sym c.all_taken.ensures ∙ c.if-not-all_taken.false in
-    ((here).has, once, taken, leb-true _ _ (sym c.has_space.ensures ∙ c.if-not-has_space.false))
+    (here.has, once, taken, leb-true _ _ (sym c.has_space.ensures ∙ c.if-not-has_space.false))
 
 pub returns : goal.returns
 returns c =
     let passed : let a = c.args in
     (has_duplicate (entry_slots 85 a.members.now) ≡ false) × (anchored_refusal (store_of a.s.now).installed a.anchor ≡ 0) = let a = c.args in
     past_answer_guard (entry_slots 85 a.members.now) (store_of a.s.now).installed a.anchor _ c.guard_answer-n.ensures c.if-n-ne0.false in
-    let here : let a = c.args in Here a.s.now a.anchor = past_guard _ _ (decoded_some _ c.requires) (passed).1 in
+    let here : let a = c.args in Here a.s.now a.anchor = past_guard _ _ (decoded_some _ c.requires) passed.1 in
     let a = c.args in
-    at_its_anchor a.s.now a.anchor (here) (answer (members_of a.members.now)) c.finish.ensures
+    at_its_anchor a.s.now a.anchor here (answer (members_of a.members.now)) c.finish.ensures

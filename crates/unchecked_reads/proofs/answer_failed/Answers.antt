@@ -37,57 +37,57 @@ all_taken-requires c =
     let passed : let a = c.args in
     (has_duplicate (entry_slots 52 a.slots.now) ≡ false) × (anchored_refusal (store_of a.s.now).installed a.anchor ≡ 0) = let a = c.args in
     past_answer_guard (entry_slots 52 a.slots.now) (store_of a.s.now).installed a.anchor _ c.guard_answer-n.ensures c.if-n-ne0.false in
-    let here : let a = c.args in Here a.s.now a.anchor = past_guard _ _ (decoded_some _ c.requires) (passed).1 in
-    ((here).has, omega arith)
+    let here : let a = c.args in Here a.s.now a.anchor = past_guard _ _ (decoded_some _ c.requires) passed.1 in
+    (here.has, omega arith)
 
 pub returns-then-not-all_taken : goal.returns-then-not-all_taken
 returns-then-not-all_taken c =
     let passed : let a = c.args in
     (has_duplicate (entry_slots 52 a.slots.now) ≡ false) × (anchored_refusal (store_of a.s.now).installed a.anchor ≡ 0) = let a = c.args in
     past_answer_guard (entry_slots 52 a.slots.now) (store_of a.s.now).installed a.anchor _ c.guard_answer-n.ensures c.if-n-ne0.false in
-    let here : let a = c.args in Here a.s.now a.anchor = past_guard _ _ (decoded_some _ c.requires) (passed).1 in
-    let once : has_duplicate (slots_of c.args.slots.now) ≡ false = ap has_duplicate (sym (entry_slots_alone _)) ∙ (passed).0 in
+    let here : let a = c.args in Here a.s.now a.anchor = past_guard _ _ (decoded_some _ c.requires) passed.1 in
+    let once : has_duplicate (slots_of c.args.slots.now) ≡ false = ap has_duplicate (sym (entry_slots_alone _)) ∙ passed.0 in
     let a = c.args in
     let g = generation_of a.s.now in
     let z = ap (λ (x : List Slot). all_taken x g.pending) (sym (entry_slots_alone a.slots.now)) ∙ sym c.all_taken.ensures ∙ c.if-not-all_taken.true in
-    stepped (failed_26 a.s.now a.anchor (here) (slots_of a.slots.now) (once) z)
+    stepped (failed_26 a.s.now a.anchor here (slots_of a.slots.now) once z)
 
 pub woken-w-requires : goal.woken-w-requires
 woken-w-requires c =
     let passed : let a = c.args in
     (has_duplicate (entry_slots 52 a.slots.now) ≡ false) × (anchored_refusal (store_of a.s.now).installed a.anchor ≡ 0) = let a = c.args in
     past_answer_guard (entry_slots 52 a.slots.now) (store_of a.s.now).installed a.anchor _ c.guard_answer-n.ensures c.if-n-ne0.false in
-    let here : let a = c.args in Here a.s.now a.anchor = past_guard _ _ (decoded_some _ c.requires) (passed).1 in
-    ((here).has, omega arith, (passed).0)
+    let here : let a = c.args in Here a.s.now a.anchor = past_guard _ _ (decoded_some _ c.requires) passed.1 in
+    (here.has, omega arith, passed.0)
 
 pub remove_all-requires : goal.remove_all-requires
 remove_all-requires c =
     let passed : let a = c.args in
     (has_duplicate (entry_slots 52 a.slots.now) ≡ false) × (anchored_refusal (store_of a.s.now).installed a.anchor ≡ 0) = let a = c.args in
     past_answer_guard (entry_slots 52 a.slots.now) (store_of a.s.now).installed a.anchor _ c.guard_answer-n.ensures c.if-n-ne0.false in
-    let here : let a = c.args in Here a.s.now a.anchor = past_guard _ _ (decoded_some _ c.requires) (passed).1 in
-    ((here).has, omega arith)
+    let here : let a = c.args in Here a.s.now a.anchor = past_guard _ _ (decoded_some _ c.requires) passed.1 in
+    (here.has, omega arith)
 
 pub record_answer-requires : goal.record_answer-requires
 record_answer-requires c =
     let passed : let a = c.args in
     (has_duplicate (entry_slots 52 a.slots.now) ≡ false) × (anchored_refusal (store_of a.s.now).installed a.anchor ≡ 0) = let a = c.args in
     past_answer_guard (entry_slots 52 a.slots.now) (store_of a.s.now).installed a.anchor _ c.guard_answer-n.ensures c.if-n-ne0.false in
-    let here : let a = c.args in Here a.s.now a.anchor = past_guard _ _ (decoded_some _ c.requires) (passed).1 in
+    let here : let a = c.args in Here a.s.now a.anchor = past_guard _ _ (decoded_some _ c.requires) passed.1 in
     let removed : let a = c.args in
     c.remove_all.new.s ≡ overlay (awaited (store_of a.s.now).config (generation_of a.s.now) (remove_all_pending (slots_of a.slots.now) (generation_of a.s.now).pending)) a.s.now = let a = c.args in
     let g = generation_of a.s.now in
     c.remove_all.ensures ∙ ap (λ (x : List Slot). overlay (awaited (store_of a.s.now).config g (remove_all_pending x g.pending)) a.s.now) (entry_slots_alone a.slots.now) in
-    let once : has_duplicate (slots_of c.args.slots.now) ≡ false = ap has_duplicate (sym (entry_slots_alone _)) ∙ (passed).0 in
+    let once : has_duplicate (slots_of c.args.slots.now) ≡ false = ap has_duplicate (sym (entry_slots_alone _)) ∙ passed.0 in
     let taken : let a = c.args in all_taken (slots_of a.slots.now) (generation_of a.s.now).pending ≡ true = let a = c.args in
     ap (λ (x : List Slot). all_taken x (generation_of a.s.now).pending) (sym (entry_slots_alone a.slots.now)) ∙ sym c.all_taken.ensures ∙ c.if-not-all_taken.false in
     let s = c.args.s.now in
     let g = generation_of s in
-    let h = (here).has in
+    let h = here.has in
     let l = c.args.slots.now in
     let q = remove_all_pending (slots_of l) g.pending in (
-      counts_in s h g.top q (removed_few s h (slots_of l)) (generation_in s h).facts.few_records _ (removed),
-      failed_answerable s h l c.woken-w.result c.woken-w.ensures (once) (taken) _ (counts_of s h g.top q (removed_few s h (slots_of l)) (generation_in s h).facts.few_records _ (removed)),
+      counts_in s h g.top q (removed_few s h (slots_of l)) (generation_in s h).facts.few_records _ removed,
+      failed_answerable s h l c.woken-w.result c.woken-w.ensures once taken _ (counts_of s h g.top q (removed_few s h (slots_of l)) (generation_in s h).facts.few_records _ removed),
     )
 
 pub returns : goal.returns
@@ -95,8 +95,8 @@ returns c =
     let passed : let a = c.args in
     (has_duplicate (entry_slots 52 a.slots.now) ≡ false) × (anchored_refusal (store_of a.s.now).installed a.anchor ≡ 0) = let a = c.args in
     past_answer_guard (entry_slots 52 a.slots.now) (store_of a.s.now).installed a.anchor _ c.guard_answer-n.ensures c.if-n-ne0.false in
-    let here : let a = c.args in Here a.s.now a.anchor = past_guard _ _ (decoded_some _ c.requires) (passed).1 in
-    let once : has_duplicate (slots_of c.args.slots.now) ≡ false = ap has_duplicate (sym (entry_slots_alone _)) ∙ (passed).0 in
+    let here : let a = c.args in Here a.s.now a.anchor = past_guard _ _ (decoded_some _ c.requires) passed.1 in
+    let once : has_duplicate (slots_of c.args.slots.now) ≡ false = ap has_duplicate (sym (entry_slots_alone _)) ∙ passed.0 in
     let taken : let a = c.args in all_taken (slots_of a.slots.now) (generation_of a.s.now).pending ≡ true = let a = c.args in
     ap (λ (x : List Slot). all_taken x (generation_of a.s.now).pending) (sym (entry_slots_alone a.slots.now)) ∙ sym c.all_taken.ensures ∙ c.if-not-all_taken.false in
     let removed : let a = c.args in
@@ -106,10 +106,10 @@ returns c =
     let a = c.args in
     let s = a.s.now in
     let g = generation_of s in
-    let h = (here).has in
+    let h = here.has in
     let l = a.slots.now in
     let q = remove_all_pending (slots_of l) g.pending in
-    stepped_as (said_failed s a.anchor (here) (slots_of l) (once) (taken))
+    stepped_as (said_failed s a.anchor here (slots_of l) once taken)
     (failed_says s h l c.woken-w.result c.woken-w.ensures)
-    (counted s h g.top q (removed_few s h (slots_of l)) (generation_in s h).facts.few_records _ (removed) (count_answer (length l / 52) 0 0 c.woken-w.result) c.record_answer.ensures
+    (counted s h g.top q (removed_few s h (slots_of l)) (generation_in s h).facts.few_records _ removed (count_answer (length l / 52) 0 0 c.woken-w.result) c.record_answer.ensures
     ∙ ap (λ (x : ReadTotals). overlay (reading (store_of s).config g g.top q x) s) (failed_totals s h l c.woken-w.result c.woken-w.ensures))

@@ -26,30 +26,30 @@ returns-then-n-ne0 c =
 pub read_u64-requires : goal.read_u64-requires
 read_u64-requires c =
     let here : let a = c.args in Here a.s.now a.anchor = past_guard _ _ (decoded_some _ c.requires) (sym c.guard-n.ensures ∙ c.if-n-ne0.false) in
-    omega (arith, header_room _ (here).has.is_store)
+    omega (arith, header_room _ here.has.is_store)
 
 pub returns-then-read_u64-ge4294967295 : goal.returns-then-read_u64-ge4294967295
 returns-then-read_u64-ge4294967295 c =
     let here : let a = c.args in Here a.s.now a.anchor = past_guard _ _ (decoded_some _ c.requires) (sym c.guard-n.ensures ∙ c.if-n-ne0.false) in
     let a = c.args in
-    let i = (here).has in
+    let i = here.has in
     let z : 4294967295 ≤ (generation_of a.s.now).totals.accepted = omega (arith, c.read_u64.ensures, (generation_in _ i).totals_word 0 (omega arith), c.if-read_u64-ge4294967295.true) in
-    stepped (said_25 a.s.now a.anchor (here) a.slot z)
+    stepped (said_25 a.s.now a.anchor here a.slot z)
 
 pub top_place-place-requires : goal.top_place-place-requires
 top_place-place-requires c =
     let here : let a = c.args in Here a.s.now a.anchor = past_guard _ _ (decoded_some _ c.requires) (sym c.guard-n.ensures ∙ c.if-n-ne0.false) in
-    (here).has
+    here.has
 
 pub resolved_at-requires : goal.resolved_at-requires
 resolved_at-requires c =
     let here : let a = c.args in Here a.s.now a.anchor = past_guard _ _ (decoded_some _ c.requires) (sym c.guard-n.ensures ∙ c.if-n-ne0.false) in
-    ((here).has, c.top_place-place.ensures)
+    (here.has, c.top_place-place.ensures)
 
 pub wait-requires : goal.wait-requires
 wait-requires c =
     let here : let a = c.args in Here a.s.now a.anchor = past_guard _ _ (decoded_some _ c.requires) (sym c.guard-n.ensures ∙ c.if-n-ne0.false) in
-    let left_open : Open c.args.s.now = let i = (here).has in
+    let left_open : Open c.args.s.now = let i = here.has in
     record { installed = i; fewer = omega (arith, c.read_u64.ensures, (generation_in _ i).totals_word 0 (omega arith), c.if-read_u64-ge4294967295.false) } in
     (left_open, sym c.resolved_at.ensures ∙ ap held_option c.in_default.is)
 
@@ -57,12 +57,12 @@ pub returns-in_default : goal.returns-in_default
 returns-in_default c =
     let here : let a = c.args in Here a.s.now a.anchor = past_guard _ _ (decoded_some _ c.requires) (sym c.guard-n.ensures ∙ c.if-n-ne0.false) in
     let a = c.args in
-    at_its_anchor a.s.now a.anchor (here) (on_slot (read a.slot)) c.wait.ensures
+    at_its_anchor a.s.now a.anchor here (on_slot (read a.slot)) c.wait.ensures
 
 pub serve-requires : goal.serve-requires
 serve-requires c =
     let here : let a = c.args in Here a.s.now a.anchor = past_guard _ _ (decoded_some _ c.requires) (sym c.guard-n.ensures ∙ c.if-n-ne0.false) in
-    let left_open : Open c.args.s.now = let i = (here).has in
+    let left_open : Open c.args.s.now = let i = here.has in
     record { installed = i; fewer = omega (arith, c.read_u64.ensures, (generation_in _ i).totals_word 0 (omega arith), c.if-read_u64-ge4294967295.false) } in
     let told : let a = c.args in resolved (store_of a.s.now).config.retention (generation_of a.s.now) a.slot ≡ some c.in-Value.v = let q : c.resolved_at.result ≡ HeldValue c.in-Value.v = search rules in
     sym c.resolved_at.ensures ∙ ap held_option q in
@@ -72,4 +72,4 @@ pub returns : goal.returns
 returns c =
     let here : let a = c.args in Here a.s.now a.anchor = past_guard _ _ (decoded_some _ c.requires) (sym c.guard-n.ensures ∙ c.if-n-ne0.false) in
     let a = c.args in
-    at_its_anchor a.s.now a.anchor (here) (on_slot (read a.slot)) c.serve.ensures
+    at_its_anchor a.s.now a.anchor here (on_slot (read a.slot)) c.serve.ensures

@@ -52,8 +52,8 @@ record_read-requires c =
     let s = c.args.s.now in
     let g = generation_of s in
     let h = c.requires.0.installed in (
-      counts_in s h (touched_top g c.args.slot) g.pending (generation_in s h).facts.few_pending (within) _ c.touch_top.ensures,
-      counts_small s h (touched_top g c.args.slot) g.pending (generation_in s h).facts.few_pending (within) _ c.touch_top.ensures,
+      counts_in s h (touched_top g c.args.slot) g.pending (generation_in s h).facts.few_pending within _ c.touch_top.ensures,
+      counts_small s h (touched_top g c.args.slot) g.pending (generation_in s h).facts.few_pending within _ c.touch_top.ensures,
     )
 
 pub returns : goal.returns
@@ -73,5 +73,5 @@ returns c =
     let s = a.s.now in
     let g = generation_of s in
     let h = c.requires.0.installed in
-    with_bytes (counted s h (touched_top g a.slot) g.pending (generation_in s h).facts.few_pending (within) _ c.touch_top.ensures count_served c.record_read.ensures)
-    (stepped (said_served s g.anchor (here_own s h) a.slot c.requires.0.fewer a.v c.requires.1 (within)))
+    with_bytes (counted s h (touched_top g a.slot) g.pending (generation_in s h).facts.few_pending within _ c.touch_top.ensures count_served c.record_read.ensures)
+    (stepped (said_served s g.anchor (here_own s h) a.slot c.requires.0.fewer a.v c.requires.1 within))

@@ -26,7 +26,7 @@ returns-then-queue_full c =
 pub join-requires : goal.join-requires
 join-requires c =
     let room : let a = c.args in (not (is_awaiting a.slot (generation_of a.s.now).pending) && leb 64 (length (generation_of a.s.now).pending)) ≡ false = sym c.queue_full.ensures ∙ c.if-queue_full.false in
-    (c.requires.0.installed, joins _ c.requires.0.installed _ (room))
+    (c.requires.0.installed, joins _ c.requires.0.installed _ room)
 
 pub record_read-requires : goal.record_read-requires
 record_read-requires c =
@@ -34,8 +34,8 @@ record_read-requires c =
     let s = c.args.s.now in
     let g = generation_of s in
     let h = c.requires.0.installed in (
-      counts_in s h g.top (join c.args.slot g.pending) (joins s h c.args.slot (room)) (generation_in s h).facts.few_records _ c.join.ensures,
-      counts_small s h g.top (join c.args.slot g.pending) (joins s h c.args.slot (room)) (generation_in s h).facts.few_records _ c.join.ensures,
+      counts_in s h g.top (join c.args.slot g.pending) (joins s h c.args.slot room) (generation_in s h).facts.few_records _ c.join.ensures,
+      counts_small s h g.top (join c.args.slot g.pending) (joins s h c.args.slot room) (generation_in s h).facts.few_records _ c.join.ensures,
     )
 
 pub overflow_add-result : goal.overflow_add-result
@@ -51,7 +51,7 @@ returns c =
     let g = generation_of s in
     let h = c.requires.0.installed in
     let q = join a.slot g.pending in
-    stepped_as (said_waits s g.anchor (here_own s h) a.slot c.requires.0.fewer c.requires.1 (room))
+    stepped_as (said_waits s g.anchor (here_own s h) a.slot c.requires.0.fewer c.requires.1 room)
     (ap (λ (n : ℕ). ok (waiting n)) (add-one _) ∙ ap (λ (n : ℕ). ok (waiting (suc n))) c.waiters-w.ensures)
-    (counted s h g.top q (joins s h a.slot (room)) (generation_in s h).facts.few_records _ c.join.ensures (count_waiting c.is_awaiting-joined.result) c.record_read.ensures
+    (counted s h g.top q (joins s h a.slot room) (generation_in s h).facts.few_records _ c.join.ensures (count_waiting c.is_awaiting-joined.result) c.record_read.ensures
     ∙ ap (λ (x : Bool). overlay (reading (store_of s).config g g.top q (count_waiting x g.totals)) s) c.is_awaiting-joined.ensures)

@@ -1,11 +1,10 @@
--- `words::clear` meets its contract. The loop's invariant: j zeros stand from `at` on. Assumes nothing.
+-- The loop of `words::clear`: what it keeps, and its measure.
 use mathlib.Core.Path.{◌≡◌}
 use Prim.Native.Nat.{◌≤◌, ◌-◌}
 use lib.ListN.{length, replicate}
 use lib.Seq.{paste}
 use Rattle.words.proofs.clear.Given as goal
 
--- `words::clear` meets its contract. The loop's invariant: j zeros stand from `at` on. Assumes nothing.
 abbrev pub invariant-loop-j : goal.invariant-loop-j
 invariant-loop-j l = (l.j ≤ l.n) × (length l.s ≡ length l.initial.s) × (l.s ≡ paste l.initial.s l.at (replicate l.n 0) l.j)
 

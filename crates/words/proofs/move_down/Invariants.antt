@@ -1,4 +1,4 @@
--- `words::move_down` meets its contract.
+-- The loop of `words::move_down`: what it keeps, and its measure.
 use mathlib.Core.Path.{◌≡◌}
 use Prim.Native.Nat.{◌+◌, ◌≤◌, ◌-◌}
 use lib.ListN.{length}
@@ -6,7 +6,6 @@ use lib.Seq.{paste}
 use Rattle.words.specs.Parts.{part}
 use Rattle.words.proofs.move_down.Given as goal
 
--- `words::move_down` meets its contract.
 abbrev pub invariant-loop-j : goal.invariant-loop-j
 invariant-loop-j l = (l.j ≤ l.n) × (length l.s ≡ length l.initial.s) × (l.s ≡ paste l.initial.s l.at (part (l.at + l.by) l.n l.initial.s) l.j)
 
