@@ -1,6 +1,6 @@
 -- The run of a whole call list, as the program `calls` makes it.
-use Rattle.std.specs.Prelude.{ℕ, List, [], ◌∷◌, ◌++◌, map, take}
-use Rattle.std.proofs.Math.Option.{Option, none}
+use Rattle.std.specs.Prelude.{ℕ, List, ◌++◌, map, take}
+use Rattle.std.proofs.Math.Option.{none}
 use Rattle.model.specs.Store.{Memory}
 use Rattle.model.specs.Refusals.{Lent, LentCall, store_size, work_size, trace}
 use Rattle.call_list.specs.Listed.{OpenLimits, ListedCall}

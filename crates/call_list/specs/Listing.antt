@@ -1,5 +1,5 @@
 -- The listing: what is printed for each call, as bytes.
-use Rattle.std.specs.Prelude.{ℕ, zero, suc, ◌+◌, ◌/◌, ◌%◌, Bool, true, false, cond, List, [], ◌∷◌, ◌++◌, ltb, length}
+use Rattle.std.specs.Prelude.{ℕ, zero, suc, ◌+◌, ◌/◌, ◌%◌, cond, List, [], ◌∷◌, ◌++◌, ltb, length}
 use Prim.Native.String.{String}
 use Prim.Native.Char.{code}
 use Rattle.std.proofs.Math.Option.{Option, some, none}

@@ -1,1 +1,3 @@
+#![tactic(auto)]
+
 // Call lists and their listing: definitions.

@@ -1,4 +1,6 @@
 // Entries of lists in bytes, read and written at a place: addresses (20 bytes), 32-byte numbers, slots (52) and writes (84).
+#![tactic(auto)]
+
 ghost use Rattle.std.specs.Prelude.{◌≡◌, ◌+◌, ◌≤◌, length, drop};
 ghost use Rattle.model.specs.Numbers.{be};
 ghost use Rattle.model.specs.Slots.{address_eqb};

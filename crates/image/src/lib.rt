@@ -1,4 +1,6 @@
 // The store's image in bytes: definitions and their theorems.
+#![tactic(auto)]
+
 ghost use Rattle.image.specs.Claims.{ImageClaims};
 ghost use Rattle.image.specs.Demand3OnBytes.{DemandOnBytes};
 

@@ -1,3 +1,5 @@
+#![tactic(auto)]
+
 // Where everything in a store stands: the code's names for specs/Layout.antt, which says what each is. Names in _WIDTH, _TABLE and _INDEX count words, names in _SIZE and _OFFSET bytes.
 pub const SLOT_WIDTH: usize = 7;
 

@@ -1,11 +1,11 @@
 -- The twelve cases of document 01, as a table. Each of the four misreadings that it names would change a row: see the comments.
 use Rattle.std.specs.Prelude.{ℕ, ◌^◌, ◌-◌, ◌≡◌, take, length}
 use mathlib.Core.List.{List, [], ◌∷◌, map, Memᴰ}
-use Rattle.std.proofs.Math.Option.{Option, some, none}
-use Rattle.model.specs.Slots.{Address, U256, Slot, ReadAnchor, at, identified, Retention, Unbounded, IdleBlocks}
-use Rattle.model.specs.Advance.{CarryOutcome, Carried, Cold, Lineage, NotConsecutive, ParentHashUnknown, ParentHashMismatch, Decoded, Write, AppliedWrites, CompactionReport, no_compaction, DeltaReport}
+use Rattle.std.proofs.Math.Option.{some, none}
+use Rattle.model.specs.Slots.{Address, U256, Slot, ReadAnchor, at, identified, Unbounded, IdleBlocks}
+use Rattle.model.specs.Advance.{CarryOutcome, Carried, Cold, NotConsecutive, ParentHashUnknown, ParentHashMismatch, Decoded, Write, AppliedWrites, CompactionReport, no_compaction}
 use Rattle.model.specs.Store.{SlotCall, look, get, put, read, AnchoredCall, on_slot, answer, install, advance, at_anchor, Call, open_store, on_store, advanced, value, no_value, stored, waiting}
-use Rattle.model.specs.Refusals.{Lent, LentCall, Answer, refuse, ok, trace}
+use Rattle.model.specs.Refusals.{Lent, Answer, refuse, ok, trace}
 
 -- A row: some runs on memory that is no store, and the last answer of each.
 pub record Row : Type 0 where

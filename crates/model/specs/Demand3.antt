@@ -1,6 +1,6 @@
 -- Demand 3 over any list of calls, refused ones of every kind included. Before the first accepted open the lent bytes are no store.
 use Rattle.std.specs.Prelude.{◌≡◌, Bool, List, map}
-use Rattle.std.proofs.Math.Option.{Option, none}
+use Rattle.std.proofs.Math.Option.{none}
 use Rattle.model.specs.Slots.{Slot}
 use Rattle.model.specs.Store.{Call}
 use Rattle.model.specs.Refusals.{LentCall, trace, final, refused}

@@ -1,6 +1,6 @@
 -- Entries of lists in bytes: addresses, 32-byte numbers, slots, writes, members. Call lists and lent lists have the same.
 use Rattle.std.specs.Prelude.{ℕ, zero, suc, ◌+◌, ◌*◌, ◌/◌, Bool, true, ◌&&◌, cond, List, [], ◌∷◌, ◌++◌, map, eqb, leb, length, take, drop, get_or}
-use Rattle.std.proofs.Math.Option.{Option, some, none}
+use Rattle.std.proofs.Math.Option.{some, none}
 use Rattle.model.specs.Numbers.{be, num}
 use Rattle.model.specs.Slots.{Address, U256, Slot}
 use Rattle.model.specs.Advance.{Write}

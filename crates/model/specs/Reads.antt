@@ -1,5 +1,5 @@
 -- Reads: the slots that await an answer, and the running totals of a generation's reads.
-use Rattle.std.specs.Prelude.{ℕ, suc, ◌+◌, ◌-◌, Bool, true, false, ◌&&◌, ◌||◌, cond, List, [], ◌∷◌, eqb, ltb, length}
+use Rattle.std.specs.Prelude.{ℕ, suc, ◌+◌, ◌-◌, Bool, true, false, ◌&&◌, ◌||◌, cond, List, [], ◌∷◌, eqb}
 use Rattle.std.proofs.Math.Option.{Option, some, none}
 use Rattle.model.specs.Slots.{Value, Slot, slot_eqb, slot_ltb, mem}
 use Rattle.model.specs.Layers.{Layer, settle}

@@ -1,4 +1,6 @@
 // The types that the store's code and its definitions share. Modules are named as the source's files.
+#![tactic(auto)]
+
 ghost use Rattle.std.specs.Prelude.{◌≡◌, length};
 ghost use Rattle.model.specs.Demand3.{Demand3};
 ghost use Rattle.model.specs.Cases.{table, TwelveCases};

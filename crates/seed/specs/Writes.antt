@@ -18,7 +18,7 @@ use Rattle.seed.specs.declared.Applied.{Applied}
 use Rattle.seed.specs.declared.Applied.TheVariants.{Full, Done}
 use Rattle.replies.specs.declared.WriteCounts.{WriteCounts}
 use Rattle.seed.specs.declared.Seeded.{Seeded}
-use Rattle.seed.specs.declared.Seeded.TheVariants.{Full as No_room, Done as Counts}
+use Rattle.seed.specs.declared.Seeded.TheVariants.{Full as NoRoom, Done as Counts}
 
 -- What a write does, in the model's terms.
 abbrev pub kind_of : Kind → WriteKind
@@ -87,5 +87,5 @@ pub record SeededTo (c : WriteCounts) (after b : List ℕ) (z : SeededTop) : Typ
 
 -- What the writes of a list came to: there is no room for the records that they leave, or all were applied.
 abbrev pub SeededAs : Seeded → List ℕ → List ℕ → List ℕ → List ℕ → Type 0
-SeededAs No_room after b addresses writes = has_room_for (seeded_in b (addresses_of addresses) (writes_of writes)).top b ≡ false
+SeededAs NoRoom after b addresses writes = has_room_for (seeded_in b (addresses_of addresses) (writes_of writes)).top b ≡ false
 SeededAs (Counts c) after b addresses writes = SeededTo c after b (seeded_in b (addresses_of addresses) (writes_of writes))

@@ -27,7 +27,7 @@ use Rattle.counts.specs.declared.Counts.{Counts}
 use Rattle.model.specs.declared.delta_snapshot.CompactionReport.{CompactionReport}
 use Rattle.replies.specs.declared.WriteCounts.{WriteCounts}
 use Rattle.seed.specs.declared.Seeded.{Seeded}
-use Rattle.seed.specs.declared.Seeded.TheVariants.{Full as No_room, Done as Counted}
+use Rattle.seed.specs.declared.Seeded.TheVariants.{Full as NoRoom, Done as Counted}
 use Rattle.seed.specs.Writes.{has_room_for, seeded_in, SeededTo, SeededAs}
 use Rattle.replies.specs.declared.AdvanceReply.TheVariants.{Refused, Advanced}
 use Rattle.unchecked_advance.specs.Outputs.{applied_in}
@@ -37,7 +37,7 @@ use Rattle.unchecked_advance.proofs.AppliedLaws.{applied_is, none_applied}
 use Rattle.unchecked_advance.proofs.Outputs.{applied_fit}
 
 -- What the answer of the writes says.
-pub seeded_full : (r : Seeded) (after b addresses writes : List ℕ) → SeededAs r after b addresses writes → r ≡ No_room → has_room_for (seeded_in b (addresses_of addresses) (writes_of writes)).top b ≡ false
+pub seeded_full : (r : Seeded) (after b addresses writes : List ℕ) → SeededAs r after b addresses writes → r ≡ NoRoom → has_room_for (seeded_in b (addresses_of addresses) (writes_of writes)).top b ≡ false
 seeded_full r after b addresses writes h e = subst (λ (x : Seeded). SeededAs x after b addresses writes) e h
 
 pub seeded_done : (r : Seeded) (c : WriteCounts) (after b addresses writes : List ℕ) → SeededAs r after b addresses writes → r ≡ Counted c → SeededTo c after b (seeded_in b (addresses_of addresses) (writes_of writes))

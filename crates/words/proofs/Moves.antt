@@ -1,12 +1,11 @@
 -- The laws of moving and placing bytes. Assumes nothing.
-use mathlib.Core.Path.{◌≡◌, refl, sym, ap, ap₂, ◌∙◌}
+use mathlib.Core.Path.{◌≡◌, sym, ap, ap₂, ◌∙◌}
 use mathlib.Core.List.{List, [], ◌∷◌, ◌++◌, append_assoc, append-nil}
-use Prim.Native.Nat.{ℕ, zero, suc, ◌+◌, ◌*◌, ◌≤◌, ◌<◌, ◌-◌, min}
+use Prim.Native.Nat.{ℕ, suc, ◌+◌, ◌≤◌, ◌<◌, ◌-◌}
 use native.Mathlib.Nat.{add-zero, sub_self, sub-zero}
-use native.Mathlib.Numerals.{add-one}
 use native.Mathlib.Omega.{arith}
-use lib.ListN.{length, take, drop, get_or, set, length-take, length-drop, length-append, take-append-drop, get_or-append}
-use lib.Seq.{take-set-lt, take-suc-set, set-append_left, append_snoc, drop-cons, get_or-take, length-take-le, take_all, take_at, drop_at, drop-append-le, take-append-le, take-take, drop-drop}
+use lib.ListN.{length, take, drop, get_or, set, length-append, take-append-drop, get_or-append}
+use lib.Seq.{take-set-lt, take-suc-set, set-append_left, append_snoc, drop-cons, get_or-take, length-take-le, drop_at, take-append-le, take-take}
 use Rattle.words.specs.Parts.{part, placed}
 use Rattle.words.specs.Moved.{moved}
 

@@ -1,4 +1,6 @@
 // Words of eight bytes, the highest byte first, in slices of bytes; moving and replacing bytes.
+#![tactic(auto)]
+
 ghost use Rattle.std.specs.Prelude.{◌≡◌, ◌+◌, ◌≤◌, ◌<◌, ◌^◌, length, replicate};
 ghost use Rattle.model.specs.Numbers.{num, be};
 ghost use Rattle.words.specs.Parts.{part, placed};

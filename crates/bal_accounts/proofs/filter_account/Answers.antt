@@ -17,9 +17,9 @@ overflow_add-result c =
     slots_within a.accounts.now a.slots.now a.changes.now a.reads.now a.i a.w c.read_account-account.result c.read_account-account.ensures c.requires.0 c.requires.1 in
     let reads_left : let a = c.args in a.w.read + c.read_account-account.result.reads ≤ length a.reads.now / 32 = let a = c.args in
     reads_within a.accounts.now a.slots.now a.changes.now a.reads.now a.i a.w c.read_account-account.result c.read_account-account.ensures c.requires.0 c.requires.1 in
-    let filtered-small : let a = c.args in
+    let filtered_small : let a = c.args in
     (a.w.filtered + c.seed_slots-spot.result.found + c.read_account-account.result.reads < 18446744073709551616) × (a.w.read + c.read_account-account.result.reads < 18446744073709551616) = (omega (arith, slots_left, reads_left, c.seed_slots-spot.ensures.few_found, c.requires.1.few_filtered), omega (arith, reads_left)) in
-    omega (arith, filtered-small)
+    omega (arith, filtered_small)
 
 pub overflow_add-result-2 : goal.overflow_add-result-2
 overflow_add-result-2 c =
@@ -27,9 +27,9 @@ overflow_add-result-2 c =
     slots_within a.accounts.now a.slots.now a.changes.now a.reads.now a.i a.w c.read_account-account.result c.read_account-account.ensures c.requires.0 c.requires.1 in
     let reads_left : let a = c.args in a.w.read + c.read_account-account.result.reads ≤ length a.reads.now / 32 = let a = c.args in
     reads_within a.accounts.now a.slots.now a.changes.now a.reads.now a.i a.w c.read_account-account.result c.read_account-account.ensures c.requires.0 c.requires.1 in
-    let filtered-small : let a = c.args in
+    let filtered_small : let a = c.args in
     (a.w.filtered + c.seed_slots-spot.result.found + c.read_account-account.result.reads < 18446744073709551616) × (a.w.read + c.read_account-account.result.reads < 18446744073709551616) = (omega (arith, slots_left, reads_left, c.seed_slots-spot.ensures.few_found, c.requires.1.few_filtered), omega (arith, reads_left)) in
-    omega (arith, filtered-small)
+    omega (arith, filtered_small)
 
 pub overflow_add-result-3 : goal.overflow_add-result-3
 overflow_add-result-3 c =
@@ -37,9 +37,9 @@ overflow_add-result-3 c =
     slots_within a.accounts.now a.slots.now a.changes.now a.reads.now a.i a.w c.read_account-account.result c.read_account-account.ensures c.requires.0 c.requires.1 in
     let reads_left : let a = c.args in a.w.read + c.read_account-account.result.reads ≤ length a.reads.now / 32 = let a = c.args in
     reads_within a.accounts.now a.slots.now a.changes.now a.reads.now a.i a.w c.read_account-account.result c.read_account-account.ensures c.requires.0 c.requires.1 in
-    let filtered-small : let a = c.args in
+    let filtered_small : let a = c.args in
     (a.w.filtered + c.seed_slots-spot.result.found + c.read_account-account.result.reads < 18446744073709551616) × (a.w.read + c.read_account-account.result.reads < 18446744073709551616) = (omega (arith, slots_left, reads_left, c.seed_slots-spot.ensures.few_found, c.requires.1.few_filtered), omega (arith, reads_left)) in
-    omega (arith, filtered-small)
+    omega (arith, filtered_small)
 
 pub returns : goal.returns
 returns c =

@@ -54,13 +54,13 @@ loop-i-smaller c = omega arith
 
 pub loop-i-preserved : goal.loop-i-preserved
 loop-i-preserved c =
-    let the-read : Slot = let l = c.loop-i in
+    let the_read : Slot = let l = c.loop-i in
     let a = c.args in
     record { address = a.address; index = u256_at 0 (drop ((a.from + l.i) * 32) a.reads.now) } in
     let out_is : let l = c.loop-i in let a = c.args in
-    c.if-found-i.out ≡ cond (ltb (a.found + l.i) a.most) (placed ((a.found + l.i) * 52) (slot_bytes the-read) l.out) l.out = let l = c.loop-i in
+    c.if-found-i.out ≡ cond (ltb (a.found + l.i) a.most) (placed ((a.found + l.i) * 52) (slot_bytes the_read) l.out) l.out = let l = c.loop-i in
     let a = c.args in
-    let put : Bool → List ℕ = λ t. cond t (placed ((a.found + l.i) * 52) (slot_bytes the-read) l.out) l.out in
+    let put : Bool → List ℕ = λ t. cond t (placed ((a.found + l.i) * 52) (slot_bytes the_read) l.out) l.out in
     ⊎_elim
     (λ w. w.out-is ∙ w.write_slot.ensures ∙ ap (λ (x : U256). placed ((a.found + l.i) * 52) (slot_bytes (record { address = a.address; index = x })) l.out) (w.read_u256-index.ensures ∙ u256_first ((a.from + l.i) * 32) a.reads.now) ∙ sym (ap put (lt-ltb (a.found + l.i) a.most w.if-found-i.true)))
     (λ w. w.out-is ∙ sym (ap put (le-ltb (a.found + l.i) a.most w.if-found-i.false)))
@@ -68,7 +68,7 @@ loop-i-preserved c =
     let l = c.loop-i in
     let a = c.args in (
       search rules,
-      ap length out_is ∙ length_put (ltb (a.found + l.i) a.most) ((a.found + l.i) * 52) (slot_bytes the-read) l.out (omega (arith, l.invariant.1, length_slot the-read)) ∙ l.invariant.1,
+      ap length out_is ∙ length_put (ltb (a.found + l.i) a.most) ((a.found + l.i) * 52) (slot_bytes the_read) l.out (omega (arith, l.invariant.1, length_slot the_read)) ∙ l.invariant.1,
       read_seeded a.address a.reads.now a.most a.from a.found a.out.now l.i l.out c.if-found-i.out (omega arith) l.invariant.2 out_is,
     )
 

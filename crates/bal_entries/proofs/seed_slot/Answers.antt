@@ -62,17 +62,17 @@ overflow_add-result-3 c =
 pub shape_of-out : goal.shape_of-out
 shape_of-out c =
     let write_at : U256 → Write = λ x. record { slot = record { address = c.args.address; index = x }; value = c.in-Changed.value } in
-    let the-write : Write = let a = c.args in write_at (u256_at 0 (drop (a.from.slot * 40) a.slots.now)) in
+    let the_write : Write = let a = c.args in write_at (u256_at 0 (drop (a.from.slot * 40) a.slots.now)) in
     let out_is : let a = c.args in
-    c.if-found-most.out ≡ cond (ltb a.from.found a.most) (placed (a.from.found * 84) (write_bytes the-write) a.out.now) a.out.now = let a = c.args in
-    let put : Bool → List ℕ = λ t. cond t (placed (a.from.found * 84) (write_bytes the-write) a.out.now) a.out.now in
+    c.if-found-most.out ≡ cond (ltb a.from.found a.most) (placed (a.from.found * 84) (write_bytes the_write) a.out.now) a.out.now = let a = c.args in
+    let put : Bool → List ℕ = λ t. cond t (placed (a.from.found * 84) (write_bytes the_write) a.out.now) a.out.now in
     ⊎_elim
     (λ w. w.out-is ∙ w.write_write.ensures ∙ ap (λ (x : U256). placed (a.from.found * 84) (write_bytes (write_at x)) a.out.now) (w.read_u256-index.ensures ∙ u256_first (a.from.slot * 40) a.slots.now) ∙ sym (ap put (lt-ltb a.from.found a.most w.if-found-most.true)))
     (λ w. w.out-is ∙ sym (ap put (le-ltb a.from.found a.most w.if-found-most.false)))
     c.if-found-most.branch-raw in
     let here : c.args.from.slot < length c.args.slots.now / 40 = omega arith in
     let a = c.args in
-    ap length out_is ∙ length_put (ltb a.from.found a.most) (a.from.found * 84) (write_bytes the-write) a.out.now (omega (arith, length_write_bytes the-write, here))
+    ap length out_is ∙ length_put (ltb a.from.found a.most) (a.from.found * 84) (write_bytes the_write) a.out.now (omega (arith, length_write_bytes the_write, here))
 
 pub returns : goal.returns
 returns c =
@@ -81,10 +81,10 @@ returns c =
     c.read_u64-count.result ≡ number_at 32 8 (drop (a.from.slot * 40) a.slots.now) = let a = c.args in c.read_u64-count.ensures ∙ number_in 32 (a.from.slot * 40) 8 a.slots.now in
     let value_is : c.final_change.result ≡ Changed c.in-Changed.value = search rules in
     let write_at : U256 → Write = λ x. record { slot = record { address = c.args.address; index = x }; value = c.in-Changed.value } in
-    let the-write : Write = let a = c.args in write_at (u256_at 0 (drop (a.from.slot * 40) a.slots.now)) in
+    let the_write : Write = let a = c.args in write_at (u256_at 0 (drop (a.from.slot * 40) a.slots.now)) in
     let out_is : let a = c.args in
-    c.if-found-most.out ≡ cond (ltb a.from.found a.most) (placed (a.from.found * 84) (write_bytes the-write) a.out.now) a.out.now = let a = c.args in
-    let put : Bool → List ℕ = λ t. cond t (placed (a.from.found * 84) (write_bytes the-write) a.out.now) a.out.now in
+    c.if-found-most.out ≡ cond (ltb a.from.found a.most) (placed (a.from.found * 84) (write_bytes the_write) a.out.now) a.out.now = let a = c.args in
+    let put : Bool → List ℕ = λ t. cond t (placed (a.from.found * 84) (write_bytes the_write) a.out.now) a.out.now in
     ⊎_elim
     (λ w. w.out-is ∙ w.write_write.ensures ∙ ap (λ (x : U256). placed (a.from.found * 84) (write_bytes (write_at x)) a.out.now) (w.read_u256-index.ensures ∙ u256_first (a.from.slot * 40) a.slots.now) ∙ sym (ap put (lt-ltb a.from.found a.most w.if-found-most.true)))
     (λ w. w.out-is ∙ sym (ap put (le-ltb a.from.found a.most w.if-found-most.false)))

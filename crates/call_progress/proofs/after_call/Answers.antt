@@ -9,5 +9,5 @@ use Rattle.call_progress.proofs.after_call.Goals as goal
 pub returns : goal.returns
 returns c =
     let a = c.args in
-    let at-known : Bool → Progress = λ k. record { next = a.next.at; at = a.at; known = k; ended = leb (length a.list.now) a.next.at; broken = false; fault = 0; place = 0 } in
-    ap at-known c.known_after.ensures
+    let at_known : Bool → Progress = λ k. record { next = a.next.at; at = a.at; known = k; ended = leb (length a.list.now) a.next.at; broken = false; fault = 0; place = 0 } in
+    ap at_known c.known_after.ensures

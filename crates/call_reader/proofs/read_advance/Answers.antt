@@ -14,12 +14,12 @@ use Rattle.call_reader.proofs.read_advance.Goals as goal
 
 pub read_u256-requires : goal.read_u256-requires
 read_u256-requires c =
-    let child-read : let a = c.args in let s = a.s.now in
+    let child_read : let a = c.args in let s = a.s.now in
     Reading (anchor_answer s (anchor.Value c.in-Value.child c.in-Value.hash)) (parse_anchor (drop a.c.at s)) a.c.at c.in-Value.hash.at (length s) = let a = c.args in
     let s = a.s.now in
     let e : c.read_anchor.result ≡ anchor.Value c.in-Value.child c.in-Value.hash = search rules in
     got (anchor_answer s) anchor_next e c.read_anchor.ensures in
-    child-read.within
+    child_read.within
 
 pub read_number-requires : goal.read_number-requires
 read_number-requires c =
@@ -41,7 +41,7 @@ read_prepared-requires c =
 
 pub returns-in-Value-read_prepared : goal.returns-in-Value-read_prepared
 returns-in-Value-read_prepared c =
-    let child-read : let a = c.args in let s = a.s.now in
+    let child_read : let a = c.args in let s = a.s.now in
     Reading (anchor_answer s (anchor.Value c.in-Value.child c.in-Value.hash)) (parse_anchor (drop a.c.at s)) a.c.at c.in-Value.hash.at (length s) = let a = c.args in
     let s = a.s.now in
     let e : c.read_anchor.result ≡ anchor.Value c.in-Value.child c.in-Value.hash = search rules in
@@ -56,19 +56,19 @@ returns-in-Value-read_prepared c =
     let s = a.s.now in
     let e : c.read_number.result ≡ number.Value c.in-Value-read_number.skip c.in-Value-read_number.rest = search rules in
     got (number_answer s) number_next e c.read_number.ensures in
-    let prepared-read : let a = c.args in let s = a.s.now in
+    let prepared_read : let a = c.args in let s = a.s.now in
     Reading (prepared_answer s (prepared.Value c.in-Value-read_prepared.prepared c.in-Value-read_prepared.next)) (parse_prepared c.in-Value-read_number.skip (drop c.in-Value-read_number.rest.at s)) c.in-Value-read_number.rest.at c.in-Value-read_prepared.next.at (length s) = let a = c.args in
     let s = a.s.now in
     let e : c.read_prepared.result ≡ prepared.Value c.in-Value-read_prepared.prepared c.in-Value-read_prepared.next = search rules in
     got (prepared_answer s) prepared_next e c.read_prepared.ensures.reading in
-    let prepared-there : PreparedWithin c.args.s.now c.in-Value-read_prepared.prepared = let s = c.args.s.now in
+    let prepared_there : PreparedWithin c.args.s.now c.in-Value-read_prepared.prepared = let s = c.args.s.now in
     let e : c.read_prepared.result ≡ prepared.Value c.in-Value-read_prepared.prepared c.in-Value-read_prepared.next = search rules in
     subst (PreparedSpans s) e c.read_prepared.ensures.spans in
-    record { reading = reading_then _ child-read (reading_then _ hash_read (reading_then _ skip_read (reading_map _ prepared-read))); spans = prepared-there }
+    record { reading = reading_then _ child_read (reading_then _ hash_read (reading_then _ skip_read (reading_map _ prepared_read))); spans = prepared_there }
 
 pub returns-in-Fault-read_prepared : goal.returns-in-Fault-read_prepared
 returns-in-Fault-read_prepared c =
-    let child-read : let a = c.args in let s = a.s.now in
+    let child_read : let a = c.args in let s = a.s.now in
     Reading (anchor_answer s (anchor.Value c.in-Value.child c.in-Value.hash)) (parse_anchor (drop a.c.at s)) a.c.at c.in-Value.hash.at (length s) = let a = c.args in
     let s = a.s.now in
     let e : c.read_anchor.result ≡ anchor.Value c.in-Value.child c.in-Value.hash = search rules in
@@ -83,15 +83,15 @@ returns-in-Fault-read_prepared c =
     let s = a.s.now in
     let e : c.read_number.result ≡ number.Value c.in-Value-read_number.skip c.in-Value-read_number.rest = search rules in
     got (number_answer s) number_next e c.read_number.ensures in
-    let prepared-fault : let a = c.args in let s = a.s.now in
+    let prepared_fault : let a = c.args in let s = a.s.now in
     Reading (fault c.in-Fault-read_prepared.n (drop c.in-Fault-read_prepared.place.at s)) (parse_prepared c.in-Value-read_number.skip (drop c.in-Value-read_number.rest.at s)) c.in-Value-read_number.rest.at c.in-Fault-read_prepared.place.at (length s) = let s = c.args.s.now in
     let e : c.read_prepared.result ≡ prepared.Fault c.in-Fault-read_prepared.n c.in-Fault-read_prepared.place = search rules in
     got (prepared_answer s) prepared_next e c.read_prepared.ensures.reading in
-    record { reading = reading_then _ child-read (reading_then _ hash_read (reading_then _ skip_read (reading_stop _ prepared-fault))); spans = tt }
+    record { reading = reading_then _ child_read (reading_then _ hash_read (reading_then _ skip_read (reading_stop _ prepared_fault))); spans = tt }
 
 pub returns-in-Fault-read_number : goal.returns-in-Fault-read_number
 returns-in-Fault-read_number c =
-    let child-read : let a = c.args in let s = a.s.now in
+    let child_read : let a = c.args in let s = a.s.now in
     Reading (anchor_answer s (anchor.Value c.in-Value.child c.in-Value.hash)) (parse_anchor (drop a.c.at s)) a.c.at c.in-Value.hash.at (length s) = let a = c.args in
     let s = a.s.now in
     let e : c.read_anchor.result ≡ anchor.Value c.in-Value.child c.in-Value.hash = search rules in
@@ -101,29 +101,29 @@ returns-in-Fault-read_number c =
     let s = a.s.now in
     let e : c.read_u256.result ≡ word.Value c.in-Value-read_u256.parent_hash c.in-Value-read_u256.number = search rules in
     got (word_answer s) word_next e c.read_u256.ensures in
-    let skip-fault : let a = c.args in let s = a.s.now in
+    let skip_fault : let a = c.args in let s = a.s.now in
     Reading (fault c.in-Fault-read_number.n (drop c.in-Fault-read_number.place.at s)) (parse_number (drop c.in-Value-read_u256.number.at s)) c.in-Value-read_u256.number.at c.in-Fault-read_number.place.at (length s) = let s = c.args.s.now in
     let e : c.read_number.result ≡ number.Fault c.in-Fault-read_number.n c.in-Fault-read_number.place = search rules in
     got (number_answer s) number_next e c.read_number.ensures in
-    record { reading = reading_then _ child-read (reading_then _ hash_read (reading_stop _ skip-fault)); spans = tt }
+    record { reading = reading_then _ child_read (reading_then _ hash_read (reading_stop _ skip_fault)); spans = tt }
 
 pub returns-in-Fault-read_u256 : goal.returns-in-Fault-read_u256
 returns-in-Fault-read_u256 c =
-    let child-read : let a = c.args in let s = a.s.now in
+    let child_read : let a = c.args in let s = a.s.now in
     Reading (anchor_answer s (anchor.Value c.in-Value.child c.in-Value.hash)) (parse_anchor (drop a.c.at s)) a.c.at c.in-Value.hash.at (length s) = let a = c.args in
     let s = a.s.now in
     let e : c.read_anchor.result ≡ anchor.Value c.in-Value.child c.in-Value.hash = search rules in
     got (anchor_answer s) anchor_next e c.read_anchor.ensures in
-    let hash-fault : let a = c.args in let s = a.s.now in
+    let hash_fault : let a = c.args in let s = a.s.now in
     Reading (fault c.in-Fault-read_u256.n (drop c.in-Fault-read_u256.place.at s)) (parse_u256 (drop c.in-Value.hash.at s)) c.in-Value.hash.at c.in-Fault-read_u256.place.at (length s) = let s = c.args.s.now in
     let e : c.read_u256.result ≡ word.Fault c.in-Fault-read_u256.n c.in-Fault-read_u256.place = search rules in
     got (word_answer s) word_next e c.read_u256.ensures in
-    record { reading = reading_then _ child-read (reading_stop _ hash-fault); spans = tt }
+    record { reading = reading_then _ child_read (reading_stop _ hash_fault); spans = tt }
 
 pub returns-in-Fault : goal.returns-in-Fault
 returns-in-Fault c =
-    let child-fault : let a = c.args in let s = a.s.now in
+    let child_fault : let a = c.args in let s = a.s.now in
     Reading (fault c.in-Fault.n (drop c.in-Fault.place.at s)) (parse_anchor (drop a.c.at s)) a.c.at c.in-Fault.place.at (length s) = let s = c.args.s.now in
     let e : c.read_anchor.result ≡ anchor.Fault c.in-Fault.n c.in-Fault.place = search rules in
     got (anchor_answer s) anchor_next e c.read_anchor.ensures in
-    record { reading = reading_stop _ child-fault; spans = tt }
+    record { reading = reading_stop _ child_fault; spans = tt }

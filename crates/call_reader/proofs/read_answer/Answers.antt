@@ -28,8 +28,8 @@ returns-in-Value c =
 
 pub returns-in-Fault : goal.returns-in-Fault
 returns-in-Fault c =
-    let form-fault : let a = c.args in let s = a.s.now in
+    let form_fault : let a = c.args in let s = a.s.now in
     Reading (fault c.in-Fault.n (drop c.in-Fault.place.at s)) (parse_form (drop a.c.at s)) a.c.at c.in-Fault.place.at (length s) = let s = c.args.s.now in
     let e : c.read_form.result ≡ form.Fault c.in-Fault.n c.in-Fault.place = search rules in
     got (form_answer s) form_next e c.read_form.ensures in
-    record { reading = reading_stop _ form-fault; spans = tt }
+    record { reading = reading_stop _ form_fault; spans = tt }

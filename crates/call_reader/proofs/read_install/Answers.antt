@@ -10,17 +10,17 @@ use Rattle.call_reader.proofs.read_install.Goals as goal
 
 pub returns-in-Value : goal.returns-in-Value
 returns-in-Value c =
-    let anchor-read : let a = c.args in let s = a.s.now in
+    let anchor_read : let a = c.args in let s = a.s.now in
     Reading (anchor_answer s (anchor.Value c.in-Value.anchor c.in-Value.next)) (parse_anchor (drop a.c.at s)) a.c.at c.in-Value.next.at (length s) = let a = c.args in
     let s = a.s.now in
     let e : c.read_anchor.result ≡ anchor.Value c.in-Value.anchor c.in-Value.next = search rules in
     got (anchor_answer s) anchor_next e c.read_anchor.ensures in
-    record { reading = reading_map _ anchor-read; spans = tt }
+    record { reading = reading_map _ anchor_read; spans = tt }
 
 pub returns-in-Fault : goal.returns-in-Fault
 returns-in-Fault c =
-    let anchor-fault : let a = c.args in let s = a.s.now in
+    let anchor_fault : let a = c.args in let s = a.s.now in
     Reading (fault c.in-Fault.n (drop c.in-Fault.place.at s)) (parse_anchor (drop a.c.at s)) a.c.at c.in-Fault.place.at (length s) = let s = c.args.s.now in
     let e : c.read_anchor.result ≡ anchor.Fault c.in-Fault.n c.in-Fault.place = search rules in
     got (anchor_answer s) anchor_next e c.read_anchor.ensures in
-    record { reading = reading_stop _ anchor-fault; spans = tt }
+    record { reading = reading_stop _ anchor_fault; spans = tt }

@@ -39,16 +39,16 @@ returns-in-Fault-read_u256 c =
     let s = a.s.now in
     let e : c.read_slot.result ≡ slot.Value c.in-Value.slot c.in-Value.rest = search rules in
     got (slot_answer s) slot_next e c.read_slot.ensures in
-    let value-fault : let a = c.args in let s = a.s.now in
+    let value_fault : let a = c.args in let s = a.s.now in
     Reading (fault c.in-Fault-read_u256.n (drop c.in-Fault-read_u256.place.at s)) (parse_u256 (drop c.in-Value.rest.at s)) c.in-Value.rest.at c.in-Fault-read_u256.place.at (length s) = let s = c.args.s.now in
     let e : c.read_u256.result ≡ word.Fault c.in-Fault-read_u256.n c.in-Fault-read_u256.place = search rules in
     got (word_answer s) word_next e c.read_u256.ensures in
-    record { reading = reading_then _ slot_read (reading_stop _ value-fault); spans = tt }
+    record { reading = reading_then _ slot_read (reading_stop _ value_fault); spans = tt }
 
 pub returns-in-Fault : goal.returns-in-Fault
 returns-in-Fault c =
-    let slot-fault : let a = c.args in let s = a.s.now in
+    let slot_fault : let a = c.args in let s = a.s.now in
     Reading (fault c.in-Fault.n (drop c.in-Fault.place.at s)) (parse_slot (drop a.c.at s)) a.c.at c.in-Fault.place.at (length s) = let s = c.args.s.now in
     let e : c.read_slot.result ≡ slot.Fault c.in-Fault.n c.in-Fault.place = search rules in
     got (slot_answer s) slot_next e c.read_slot.ensures in
-    record { reading = reading_stop _ slot-fault; spans = tt }
+    record { reading = reading_stop _ slot_fault; spans = tt }

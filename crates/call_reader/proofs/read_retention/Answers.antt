@@ -12,24 +12,24 @@ use Rattle.call_reader.proofs.read_retention.Goals as goal
 
 pub returns-in-Value : goal.returns-in-Value
 returns-in-Value c =
-    let blocks-read : let a = c.args in let s = a.s.now in
+    let blocks_read : let a = c.args in let s = a.s.now in
     Reading (number_answer s (number.Value c.in-Value.blocks c.in-Value.next)) (parse_number (drop a.c.at s)) a.c.at c.in-Value.next.at (length s) = let a = c.args in
     let s = a.s.now in
     let e : c.read_number.result ≡ number.Value c.in-Value.blocks c.in-Value.next = search rules in
     got (number_answer s) number_next e c.read_number.ensures in
     let a = c.args in
     let s = a.s.now in
-    reading_as (ap (λ (b : Bool). parse_retention b (drop a.c.at s)) (sym c.if-idle.true)) (reading_map _ blocks-read)
+    reading_as (ap (λ (b : Bool). parse_retention b (drop a.c.at s)) (sym c.if-idle.true)) (reading_map _ blocks_read)
 
 pub returns-in-Fault : goal.returns-in-Fault
 returns-in-Fault c =
-    let blocks-fault : let a = c.args in let s = a.s.now in
+    let blocks_fault : let a = c.args in let s = a.s.now in
     Reading (fault c.in-Fault.n (drop c.in-Fault.place.at s)) (parse_number (drop a.c.at s)) a.c.at c.in-Fault.place.at (length s) = let s = c.args.s.now in
     let e : c.read_number.result ≡ number.Fault c.in-Fault.n c.in-Fault.place = search rules in
     got (number_answer s) number_next e c.read_number.ensures in
     let a = c.args in
     let s = a.s.now in
-    reading_as (ap (λ (b : Bool). parse_retention b (drop a.c.at s)) (sym c.if-idle.true)) (reading_stop _ blocks-fault)
+    reading_as (ap (λ (b : Bool). parse_retention b (drop a.c.at s)) (sym c.if-idle.true)) (reading_stop _ blocks_fault)
 
 pub returns-else-idle : goal.returns-else-idle
 returns-else-idle c =

@@ -23,8 +23,8 @@ returns-in-Value c =
 
 pub returns-in-Fault : goal.returns-in-Fault
 returns-in-Fault c =
-    let slot-fault : let a = c.args in let s = a.s.now in
+    let slot_fault : let a = c.args in let s = a.s.now in
     Reading (fault c.in-Fault.n (drop c.in-Fault.place.at s)) (parse_slot (drop a.c.at s)) a.c.at c.in-Fault.place.at (length s) = let s = c.args.s.now in
     let e : c.read_slot.result ≡ slot.Fault c.in-Fault.n c.in-Fault.place = search rules in
     got (slot_answer s) slot_next e c.read_slot.ensures in
-    record { reading = reading_stop _ slot-fault; spans = tt }
+    record { reading = reading_stop _ slot_fault; spans = tt }

@@ -28,13 +28,13 @@ take-requires c = ap is_some c.requires.0
 
 pub answer-requires : goal.answer-requires
 answer-requires c =
-    let an-answer : c.args.call ≡ Answer c.in-Answer.span = search rules in
-    (c.requires.0, record { next = c.requires.1.next; within = there c.args.list.now c.args.call _ c.requires.1 an-answer }, c.requires.2)
+    let an_answer : c.args.call ≡ Answer c.in-Answer.span = search rules in
+    (c.requires.0, record { next = c.requires.1.next; within = there c.args.list.now c.args.call _ c.requires.1 an_answer }, c.requires.2)
 
 pub answer_failed-requires : goal.answer_failed-requires
 answer_failed-requires c =
-    let a-failed : c.args.call ≡ AnswerFailed c.in-AnswerFailed.span = search rules in
-    (c.requires.0, there c.args.list.now c.args.call _ c.requires.1 a-failed)
+    let a_failed : c.args.call ≡ AnswerFailed c.in-AnswerFailed.span = search rules in
+    (c.requires.0, there c.args.list.now c.args.call _ c.requires.1 a_failed)
 
 pub returns-in-OnSlot : goal.returns-in-OnSlot
 returns-in-OnSlot c w =
@@ -49,12 +49,12 @@ returns-in-Take c w =
 
 pub returns-in-Answer : goal.returns-in-Answer
 returns-in-Answer c w =
-    let an-answer : c.args.call ≡ Answer c.in-Answer.span = search rules in
+    let an_answer : c.args.call ≡ Answer c.in-Answer.span = search rules in
     let a = c.args in
-    named_as a.s.now w a.entries.now (ap (called a.anchor a.list.now) an-answer) (c.answer.ensures w a.entries.now)
+    named_as a.s.now w a.entries.now (ap (called a.anchor a.list.now) an_answer) (c.answer.ensures w a.entries.now)
 
 pub returns-in-AnswerFailed : goal.returns-in-AnswerFailed
 returns-in-AnswerFailed c w =
-    let a-failed : c.args.call ≡ AnswerFailed c.in-AnswerFailed.span = search rules in
+    let a_failed : c.args.call ≡ AnswerFailed c.in-AnswerFailed.span = search rules in
     let a = c.args in
-    named_as a.s.now w a.entries.now (ap (called a.anchor a.list.now) a-failed) (c.answer_failed.ensures w a.entries.now)
+    named_as a.s.now w a.entries.now (ap (called a.anchor a.list.now) a_failed) (c.answer_failed.ensures w a.entries.now)

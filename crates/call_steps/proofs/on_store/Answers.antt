@@ -21,13 +21,13 @@ install-requires c = ap is_some c.requires.0
 
 pub advance-requires : goal.advance-requires
 advance-requires c =
-    let an-advance : c.args.call ≡ Advance c.in-Advance.child c.in-Advance.parent_hash c.in-Advance.prepared = search rules in
-    let h = there c.args.list.now c.args.call _ c.requires.1 an-advance in (c.requires.0, h)
+    let an_advance : c.args.call ≡ Advance c.in-Advance.child c.in-Advance.parent_hash c.in-Advance.prepared = search rules in
+    let h = there c.args.list.now c.args.call _ c.requires.1 an_advance in (c.requires.0, h)
 
 pub anchored-requires : goal.anchored-requires
 anchored-requires c =
-    let an-anchored : c.args.call ≡ Anchored c.in-Anchored.anchor c.in-Anchored.c = search rules in
-    (c.requires.0, record { next = c.requires.1.next; within = there c.args.list.now c.args.call _ c.requires.1 an-anchored }, c.requires.2)
+    let an_anchored : c.args.call ≡ Anchored c.in-Anchored.anchor c.in-Anchored.c = search rules in
+    (c.requires.0, record { next = c.requires.1.next; within = there c.args.list.now c.args.call _ c.requires.1 an_anchored }, c.requires.2)
 
 pub returns-in-OpenDefault : goal.returns-in-OpenDefault
 returns-in-OpenDefault c =
@@ -49,12 +49,12 @@ returns-in-Install c =
 
 pub returns-in-Advance : goal.returns-in-Advance
 returns-in-Advance c =
-    let an-advance : c.args.call ≡ Advance c.in-Advance.child c.in-Advance.parent_hash c.in-Advance.prepared = search rules in
+    let an_advance : c.args.call ≡ Advance c.in-Advance.child c.in-Advance.parent_hash c.in-Advance.prepared = search rules in
     let a = c.args in
-    named_as a.s.now (length a.work.now) a.entries.now (ap (meant a.list.now) an-advance) c.advance.ensures
+    named_as a.s.now (length a.work.now) a.entries.now (ap (meant a.list.now) an_advance) c.advance.ensures
 
 pub returns-in-Anchored : goal.returns-in-Anchored
 returns-in-Anchored c =
-    let an-anchored : c.args.call ≡ Anchored c.in-Anchored.anchor c.in-Anchored.c = search rules in
+    let an_anchored : c.args.call ≡ Anchored c.in-Anchored.anchor c.in-Anchored.c = search rules in
     let a = c.args in
-    named_as a.s.now (length a.work.now) a.entries.now (ap (meant a.list.now) an-anchored) (c.anchored.ensures (length a.work.now))
+    named_as a.s.now (length a.work.now) a.entries.now (ap (meant a.list.now) an_anchored) (c.anchored.ensures (length a.work.now))

@@ -41,20 +41,20 @@ seed_from_accounts-w-requires c =
 
 pub counts_of-requires : goal.counts_of-requires
 counts_of-requires c =
-    let lists-small : (length c.args.slots.now < 18446744073709551616) × (length c.args.reads.now < 18446744073709551616) = (omega arith, omega arith) in
-    let found-small : c.seed_from_accounts-w.result.writes + c.seed_from_accounts-w.result.reads < 18446744073709551616 = let f = c.seed_from_accounts-w.ensures.fits in
-    let small = lists-small in
+    let lists_small : (length c.args.slots.now < 18446744073709551616) × (length c.args.reads.now < 18446744073709551616) = (omega arith, omega arith) in
+    let found_small : c.seed_from_accounts-w.result.writes + c.seed_from_accounts-w.result.reads < 18446744073709551616 = let f = c.seed_from_accounts-w.ensures.fits in
+    let small = lists_small in
     omega (arith, f.few_writes, f.slots_are, f.few_reads, f.reads_are, small.0, small.1) in
-    found-small
+    found_small
 
 pub returns : goal.returns
 returns c =
     let alike : let a = c.args in counts_differ (lent_lists a.accounts.now a.slots.now a.changes.now a.reads.now) ≡ false = not-true _ (sym c.counts_agree.ensures ∙ c.if-not-counts_agree.false) in
-    let lists-small : (length c.args.slots.now < 18446744073709551616) × (length c.args.reads.now < 18446744073709551616) = (omega arith, omega arith) in
+    let lists_small : (length c.args.slots.now < 18446744073709551616) × (length c.args.reads.now < 18446744073709551616) = (omega arith, omega arith) in
     let a = c.args in
     let w = c.seed_from_accounts-w.result in
     let wo' : List ℕ = c.seed_from_accounts-w.new.writes_out in
     let ro' : List ℕ = c.seed_from_accounts-w.new.reads_out in
     subst (λ (x : SeedCounts). Answers (Seeded x) wo' ro' (lent_final_writes (plan_of a.plan_addresses.now a.max_writes a.max_reads) (lent_lists a.accounts.now a.slots.now a.changes.now a.reads.now) a.writes_out.now a.reads_out.now) a.writes_out.now a.reads_out.now)
     (sym (c.counts_of.ensures ∙ ap₂ (counts_of w) c.limit.ensures c.limit-2.ensures))
-    (accepted a.accounts.now a.slots.now a.changes.now a.reads.now a.plan_addresses.now a.writes_out.now a.reads_out.now a.max_writes a.max_reads w wo' ro' alike c.if-writes_out-slots.false c.if-reads_out-reads.false (λ j. (c.type_inv.accounts j).fits) (λ j. (c.type_inv.slots j).fits) (λ j. (c.type_inv.changes j).fits) (λ j. (c.type_inv.reads j).fits) lists-small.0 lists-small.1 c.seed_from_accounts-w.ensures)
+    (accepted a.accounts.now a.slots.now a.changes.now a.reads.now a.plan_addresses.now a.writes_out.now a.reads_out.now a.max_writes a.max_reads w wo' ro' alike c.if-writes_out-slots.false c.if-reads_out-reads.false (λ j. (c.type_inv.accounts j).fits) (λ j. (c.type_inv.slots j).fits) (λ j. (c.type_inv.changes j).fits) (λ j. (c.type_inv.reads j).fits) lists_small.0 lists_small.1 c.seed_from_accounts-w.ensures)

@@ -6,8 +6,8 @@ use Rattle.image.proofs.OnBytes.{on_bytes}
 use Rattle.image.proofs.Demand3Holds.{demand_on_bytes}
 use Rattle.image.proofs.claims.Goals as goal
 
-image-claims : ImageClaims
-image-claims = record { closure = closure; reads_back = image_reads_back; on_bytes = on_bytes closure }
+image_claims : ImageClaims
+image_claims = record { closure = closure; reads_back = image_reads_back; on_bytes = on_bytes closure }
 
 pub returns : goal.returns
-returns c = (image-claims, demand_on_bytes closure)
+returns c = (image_claims, demand_on_bytes closure)

@@ -18,8 +18,8 @@ abbrev μ-highest : Measures 1 highest-kinds.ps ℕ
 abbrev highest_at : ℕ → In 1 highest-kinds.ps
 highest_at t = and 1 highest-kinds.ps (is 1 highest-kinds.ps μ-highest t) highest.Pre
 
-abbrev highest-below : ℕ → In 1 highest-kinds.ps
-highest-below t = and 1 highest-kinds.ps (falls 1 highest-kinds.ps ◌<◌ μ-highest t) highest.Pre
+abbrev highest_below : ℕ → In 1 highest-kinds.ps
+highest_below t = and 1 highest-kinds.ps (falls 1 highest-kinds.ps ◌<◌ μ-highest t) highest.Pre
 
 pub returns-then-k-eq0 : goal.returns-then-k-eq0
 returns-then-k-eq0 t c = let a = c.args in passed_all a.slot a.k a.k (generation_of a.s.now).base (passed_start _ _ _) c.if-k-eq0.true

@@ -12,12 +12,12 @@ use Rattle.layers.proofs.+value_row.Goals as goal
 abbrev μ-value-row : Measures 1 value-row-kinds.ps ℕ
 μ-value-row κs a = a.1.0
 
-abbrev value-row-at : ℕ → In 1 value-row-kinds.ps
-value-row-at t =
+abbrev value_row_at : ℕ → In 1 value-row-kinds.ps
+value_row_at t =
     and 1 value-row-kinds.ps (is 1 value-row-kinds.ps μ-value-row t) Value-row.Pre
 
-abbrev value-row-below : ℕ → In 1 value-row-kinds.ps
-value-row-below t =
+abbrev value_row_below : ℕ → In 1 value-row-kinds.ps
+value_row_below t =
     and 1 value-row-kinds.ps (falls 1 value-row-kinds.ps ◌<◌ μ-value-row t) Value-row.Pre
 
 pub highest-found-requires : goal.highest-found-requires

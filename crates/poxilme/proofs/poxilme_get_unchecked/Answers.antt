@@ -75,9 +75,9 @@ served_row-found-requires c =
 pub write_no_value-requires : goal.write_no_value-requires
 write_no_value-requires c =
     let fits : let a = c.args in slot_enough a.hash.now a.slot.now a.reply.now ≡ true = fit c.slot_enough.ensures c.if-not-slot_enough.false in
-    let reply-long : let a = c.args in reply_size ≤ length a.reply.now = let a = c.args in
+    let reply_long : let a = c.args in reply_size ≤ length a.reply.now = let a = c.args in
     anchored_reply a.hash.now a.reply.now (slot_anchored a.hash.now a.reply.now a.slot.now fits) in
-    reply-long
+    reply_long
 
 pub returns-then-found-eq0 : goal.returns-then-found-eq0
 returns-then-found-eq0 c =
@@ -125,10 +125,10 @@ write_row-requires c =
     let found : let a = c.args in ValueIn (c.served_row-found.result - 1) (resolved (store_of a.s.now).config.retention (generation_of a.s.now) c.slot-t.result) a.s.now = let a = c.args in
     value_at c.served_row-found.result _ a.s.now c.served_row-found.ensures c.if-found-eq0.false in
     let fits : let a = c.args in slot_enough a.hash.now a.slot.now a.reply.now ≡ true = fit c.slot_enough.ensures c.if-not-slot_enough.false in
-    let reply-long : let a = c.args in reply_size ≤ length a.reply.now = let a = c.args in
+    let reply_long : let a = c.args in reply_size ≤ length a.reply.now = let a = c.args in
     anchored_reply a.hash.now a.reply.now (slot_anchored a.hash.now a.reply.now a.slot.now fits) in
     let h = found in
-    (reply-long, h.room, h.has)
+    (reply_long, h.room, h.has)
 
 pub touch_top-requires : goal.touch_top-requires
 touch_top-requires c =

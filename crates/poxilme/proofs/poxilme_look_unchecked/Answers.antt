@@ -68,9 +68,9 @@ served_row-found-requires c =
 pub write_no_value-requires : goal.write_no_value-requires
 write_no_value-requires c =
     let fits : let a = c.args in slot_enough a.hash.now a.slot.now a.reply.now ≡ true = fit c.slot_enough.ensures c.if-not-slot_enough.false in
-    let reply-long : let a = c.args in reply_size ≤ length a.reply.now = let a = c.args in
+    let reply_long : let a = c.args in reply_size ≤ length a.reply.now = let a = c.args in
     anchored_reply a.hash.now a.reply.now (slot_anchored a.hash.now a.reply.now a.slot.now fits) in
-    reply-long
+    reply_long
 
 pub returns-then-found-eq0 : goal.returns-then-found-eq0
 returns-then-found-eq0 c =
@@ -89,11 +89,11 @@ returns-then-found-eq0 c =
 pub write_row-requires : goal.write_row-requires
 write_row-requires c =
     let fits : let a = c.args in slot_enough a.hash.now a.slot.now a.reply.now ≡ true = fit c.slot_enough.ensures c.if-not-slot_enough.false in
-    let reply-long : let a = c.args in reply_size ≤ length a.reply.now = let a = c.args in
+    let reply_long : let a = c.args in reply_size ≤ length a.reply.now = let a = c.args in
     anchored_reply a.hash.now a.reply.now (slot_anchored a.hash.now a.reply.now a.slot.now fits) in
     let a = c.args in
     let h = value_at c.served_row-found.result _ a.s.now c.served_row-found.ensures c.if-found-eq0.false in
-    (reply-long, h.room, h.has)
+    (reply_long, h.room, h.has)
 
 pub returns : goal.returns
 returns c =

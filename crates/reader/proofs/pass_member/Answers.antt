@@ -50,18 +50,18 @@ returns-in-Fault-read_form c =
     let s = a.s.now in
     let e : c.read_slot.result ≡ slot.Value c.in-Value.field-0 c.in-Value.form = search rules in
     got (slot_answer s) slot_next e c.read_slot.ensures in
-    let form-fault : let a = c.args in let s = a.s.now in
+    let form_fault : let a = c.args in let s = a.s.now in
     Reading (fault c.in-Fault-read_form.n (drop c.in-Fault-read_form.place.at s)) (parse_form (drop c.in-Value.form.at s)) c.in-Value.form.at c.in-Fault-read_form.place.at (length s) = let s = c.args.s.now in
     let e : c.read_form.result ≡ form.Fault c.in-Fault-read_form.n c.in-Fault-read_form.place = search rules in
     got (form_answer s) form_next e c.read_form.ensures in
     let a = c.args in
-    reading_as (past_one (drop a.c.at a.s.now)) (reading_then _ slot_read (reading_stop _ form-fault))
+    reading_as (past_one (drop a.c.at a.s.now)) (reading_then _ slot_read (reading_stop _ form_fault))
 
 pub returns-in-Fault : goal.returns-in-Fault
 returns-in-Fault c =
-    let slot-fault : let a = c.args in let s = a.s.now in
+    let slot_fault : let a = c.args in let s = a.s.now in
     Reading (fault c.in-Fault.n (drop c.in-Fault.place.at s)) (parse_slot (drop a.c.at s)) a.c.at c.in-Fault.place.at (length s) = let s = c.args.s.now in
     let e : c.read_slot.result ≡ slot.Fault c.in-Fault.n c.in-Fault.place = search rules in
     got (slot_answer s) slot_next e c.read_slot.ensures in
     let a = c.args in
-    reading_as (past_one (drop a.c.at a.s.now)) (reading_stop _ slot-fault)
+    reading_as (past_one (drop a.c.at a.s.now)) (reading_stop _ slot_fault)

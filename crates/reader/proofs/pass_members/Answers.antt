@@ -31,13 +31,13 @@ loop-left-preserved c =
 
 pub returns-in-Fault : goal.returns-in-Fault
 returns-in-Fault c =
-    let member-fault : let a = c.args in let s = a.s.now in
+    let member_fault : let a = c.args in let s = a.s.now in
     Reading (fault c.in-Fault.n (drop c.in-Fault.place.at s)) (past_members 1 (drop c.loop-left.at s)) c.loop-left.at c.in-Fault.place.at (length s) = let s = c.args.s.now in
     let e : c.pass_member.result ≡ passed.Fault c.in-Fault.n c.in-Fault.place = search rules in
     got (passed_answer s) passed_next e c.pass_member.ensures in
     let l = c.loop-left in
     let s = c.args.s.now in
-    let w = member-fault in
+    let w = member_fault in
     record {
       means = ap (λ q. then q (λ z r. past_members (l.left - 1) r)) w.means ∙ sym (past_turn l.left (l.left - 1) (drop l.at s) (omega arith)) ∙ l.invariant.2;
       forward = omega arith;

@@ -23,13 +23,13 @@ returns-in-Value c =
 
 pub returns-in-Fault : goal.returns-in-Fault
 returns-in-Fault c =
-    let value-fault : let a = c.args in let s = a.s.now in
+    let value_fault : let a = c.args in let s = a.s.now in
     Reading (fault c.in-Fault.n (drop c.in-Fault.place.at s)) (parse_u256 (drop a.c.at s)) a.c.at c.in-Fault.place.at (length s) = let s = c.args.s.now in
     let e : c.read_u256.result ≡ word.Fault c.in-Fault.n c.in-Fault.place = search rules in
     got (word_answer s) word_next e c.read_u256.ensures in
     let a = c.args in
     let s = a.s.now in
-    reading_as (ap (λ (b : Bool). past_value b (drop a.c.at s)) (sym c.if-valued.true)) (reading_stop _ (reading_stop _ value-fault))
+    reading_as (ap (λ (b : Bool). past_value b (drop a.c.at s)) (sym c.if-valued.true)) (reading_stop _ (reading_stop _ value_fault))
 
 pub returns-else-valued : goal.returns-else-valued
 returns-else-valued c =

@@ -43,16 +43,16 @@ returns-in-Fault-read_form c =
     Reading (parsed c.in-Value.number (drop c.in-Value.form.at s)) (parse_number (drop a.c.at s)) a.c.at c.in-Value.form.at (length s) = let s = c.args.s.now in
     let e : c.read_number.result ≡ number.Value c.in-Value.number c.in-Value.form = search rules in
     got (number_answer s) number_next e c.read_number.ensures in
-    let form-fault : let a = c.args in let s = a.s.now in
+    let form_fault : let a = c.args in let s = a.s.now in
     Reading (fault c.in-Fault-read_form.n (drop c.in-Fault-read_form.place.at s)) (parse_form (drop c.in-Value.form.at s)) c.in-Value.form.at c.in-Fault-read_form.place.at (length s) = let s = c.args.s.now in
     let e : c.read_form.result ≡ form.Fault c.in-Fault-read_form.n c.in-Fault-read_form.place = search rules in
     got (form_answer s) form_next e c.read_form.ensures in
-    reading_then _ number_read (reading_stop _ form-fault)
+    reading_then _ number_read (reading_stop _ form_fault)
 
 pub returns-in-Fault : goal.returns-in-Fault
 returns-in-Fault c =
-    let number-fault : let a = c.args in let s = a.s.now in
+    let number_fault : let a = c.args in let s = a.s.now in
     Reading (fault c.in-Fault.n (drop c.in-Fault.place.at s)) (parse_number (drop a.c.at s)) a.c.at c.in-Fault.place.at (length s) = let s = c.args.s.now in
     let e : c.read_number.result ≡ number.Fault c.in-Fault.n c.in-Fault.place = search rules in
     got (number_answer s) number_next e c.read_number.ensures in
-    reading_stop _ number-fault
+    reading_stop _ number_fault

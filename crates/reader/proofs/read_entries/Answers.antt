@@ -28,8 +28,8 @@ returns-in-Value c =
 
 pub returns-in-Fault : goal.returns-in-Fault
 returns-in-Fault c =
-    let count-fault : let a = c.args in let s = a.s.now in
+    let count_fault : let a = c.args in let s = a.s.now in
     Reading (fault c.in-Fault.n (drop c.in-Fault.place.at s)) (parse_number (drop a.c.at s)) a.c.at c.in-Fault.place.at (length s) = let s = c.args.s.now in
     let e : c.read_number.result ≡ number.Fault c.in-Fault.n c.in-Fault.place = search rules in
     got (number_answer s) number_next e c.read_number.ensures in
-    record { reading = reading_stop _ count-fault; spans = tt }
+    record { reading = reading_stop _ count_fault; spans = tt }

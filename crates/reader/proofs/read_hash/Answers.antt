@@ -25,13 +25,13 @@ returns-in-Value c =
 
 pub returns-in-Fault : goal.returns-in-Fault
 returns-in-Fault c =
-    let hash-fault : let a = c.args in let s = a.s.now in
+    let hash_fault : let a = c.args in let s = a.s.now in
     Reading (fault c.in-Fault.n (drop c.in-Fault.place.at s)) (parse_u256 (drop a.c.at s)) a.c.at c.in-Fault.place.at (length s) = let s = c.args.s.now in
     let e : c.read_u256.result ≡ word.Fault c.in-Fault.n c.in-Fault.place = search rules in
     got (word_answer s) word_next e c.read_u256.ensures in
     let a = c.args in
     let s = a.s.now in
-    reading_as (ap (λ (b : Bool). parse_hash a.number b (drop a.c.at s)) (sym c.if-known.true)) (reading_stop _ hash-fault)
+    reading_as (ap (λ (b : Bool). parse_hash a.number b (drop a.c.at s)) (sym c.if-known.true)) (reading_stop _ hash_fault)
 
 pub returns-else-known : goal.returns-else-known
 returns-else-known c =

@@ -26,12 +26,12 @@ returns-in-Value-pass_members c =
     let s = a.s.now in
     let e : c.read_number.result ≡ number.Value c.in-Value.count c.in-Value.first = search rules in
     got (number_answer s) number_next e c.read_number.ensures in
-    let members-read : let a = c.args in let s = a.s.now in
+    let members_read : let a = c.args in let s = a.s.now in
     Reading (passed_answer s (passed.Value c.in-Value-pass_members.next)) (past_members c.in-Value.count (drop c.in-Value.first.at s)) c.in-Value.first.at c.in-Value-pass_members.next.at (length s) = let a = c.args in
     let s = a.s.now in
     let e : c.pass_members.result ≡ passed.Value c.in-Value-pass_members.next = search rules in
     got (passed_answer s) passed_next e c.pass_members.ensures in
-    record { reading = reading_then _ count_read (reading_map _ members-read); spans = (count_read.within, sym members-read.means) }
+    record { reading = reading_then _ count_read (reading_map _ members_read); spans = (count_read.within, sym members_read.means) }
 
 pub returns-in-Fault-pass_members : goal.returns-in-Fault-pass_members
 returns-in-Fault-pass_members c =
@@ -40,16 +40,16 @@ returns-in-Fault-pass_members c =
     let s = a.s.now in
     let e : c.read_number.result ≡ number.Value c.in-Value.count c.in-Value.first = search rules in
     got (number_answer s) number_next e c.read_number.ensures in
-    let members-fault : let a = c.args in let s = a.s.now in
+    let members_fault : let a = c.args in let s = a.s.now in
     Reading (fault c.in-Fault-pass_members.n (drop c.in-Fault-pass_members.place.at s)) (past_members c.in-Value.count (drop c.in-Value.first.at s)) c.in-Value.first.at c.in-Fault-pass_members.place.at (length s) = let s = c.args.s.now in
     let e : c.pass_members.result ≡ passed.Fault c.in-Fault-pass_members.n c.in-Fault-pass_members.place = search rules in
     got (passed_answer s) passed_next e c.pass_members.ensures in
-    record { reading = reading_then _ count_read (reading_stop _ members-fault); spans = tt }
+    record { reading = reading_then _ count_read (reading_stop _ members_fault); spans = tt }
 
 pub returns-in-Fault : goal.returns-in-Fault
 returns-in-Fault c =
-    let count-fault : let a = c.args in let s = a.s.now in
+    let count_fault : let a = c.args in let s = a.s.now in
     Reading (fault c.in-Fault.n (drop c.in-Fault.place.at s)) (parse_number (drop a.c.at s)) a.c.at c.in-Fault.place.at (length s) = let s = c.args.s.now in
     let e : c.read_number.result ≡ number.Fault c.in-Fault.n c.in-Fault.place = search rules in
     got (number_answer s) number_next e c.read_number.ensures in
-    record { reading = reading_stop _ count-fault; spans = tt }
+    record { reading = reading_stop _ count_fault; spans = tt }

@@ -20,8 +20,8 @@ entry_room : (wide n i : ℕ) → i < n → i * wide + wide ≤ n * wide
 entry_room wide n i h = let k : (i + 1) * wide ≤ n * wide = mul-le-mul_right wide (omega arith) in omega (arith, k)
 
 -- A place's number fits.
-places-fit : (wide n : ℕ) → slot_size ≤ wide → slot_size * n ≤ n * wide
-places-fit wide n h = let k : n * slot_size ≤ n * wide = mul-le-mul_left n h in omega (arith, k)
+places_fit : (wide n : ℕ) → slot_size ≤ wide → slot_size * n ≤ n * wide
+places_fit wide n h = let k : n * slot_size ≤ n * wide = mul-le-mul_left n h in omega (arith, k)
 
 pub loop-lo-init : goal.loop-lo-init
 loop-lo-init c = (search rules, search rules, (λ l e. record { below = λ j h. absurd (omega arith); above = λ j h m. absurd (omega arith) }))
@@ -52,7 +52,7 @@ loop-lo-preserved-in-Less c =
     )
 
 pub overflow_mul-result : goal.overflow_mul-result
-overflow_mul-result c = omega (arith, places-fit c.args.wide c.args.n c.requires.0, c.requires.1)
+overflow_mul-result c = omega (arith, places_fit c.args.wide c.args.n c.requires.0, c.requires.1)
 
 pub returns-in-Equal : goal.returns-in-Equal
 returns-in-Equal c k e =
@@ -81,10 +81,10 @@ loop-lo-preserved c =
     )
 
 pub overflow_mul-result-2 : goal.overflow_mul-result-2
-overflow_mul-result-2 c = omega (arith, places-fit c.args.wide c.args.n c.requires.0, c.requires.1)
+overflow_mul-result-2 c = omega (arith, places_fit c.args.wide c.args.n c.requires.0, c.requires.1)
 
 pub overflow_add-result : goal.overflow_add-result
-overflow_add-result c = omega (arith, places-fit c.args.wide c.args.n c.requires.0, c.requires.1)
+overflow_add-result c = omega (arith, places_fit c.args.wide c.args.n c.requires.0, c.requires.1)
 
 pub returns : goal.returns
 returns c k e =

@@ -15,15 +15,15 @@ read_u64-capacity-requires c = omega (arith, header_room _ c.requires.0.is_store
 
 pub overflow_mul-start : goal.overflow_mul-start
 overflow_mul-start c =
-    let base-fits : records_offset + record_size * c.top_start.result ≤ length c.args.s.now = let w : GenerationBytes c.args.s.now _ _ = generation_in c.args.s.now c.requires.0 in
+    let base_fits : records_offset + record_size * c.top_start.result ≤ length c.args.s.now = let w : GenerationBytes c.args.s.now _ _ = generation_in c.args.s.now c.requires.0 in
     omega (arith, c.top_start.ensures, w.top.room) in
-    omega (arith, base-fits)
+    omega (arith, base_fits)
 
 pub overflow_add-start : goal.overflow_add-start
 overflow_add-start c =
-    let base-fits : records_offset + record_size * c.top_start.result ≤ length c.args.s.now = let w : GenerationBytes c.args.s.now _ _ = generation_in c.args.s.now c.requires.0 in
+    let base_fits : records_offset + record_size * c.top_start.result ≤ length c.args.s.now = let w : GenerationBytes c.args.s.now _ _ = generation_in c.args.s.now c.requires.0 in
     omega (arith, c.top_start.ensures, w.top.room) in
-    omega (arith, base-fits)
+    omega (arith, base_fits)
 
 pub overflow_mul-at : goal.overflow_mul-at
 overflow_mul-at c =
@@ -68,9 +68,9 @@ place-requires c =
     let left_few : c.args.left ≤ c.top_start.result = omega (arith, c.top_start.ensures, c.requires.1) in
     let room : records_offset + record_size * c.read_u64-capacity.result ≤ length c.args.s.now = let w : GenerationBytes c.args.s.now _ _ = generation_in c.args.s.now c.requires.0 in
     omega (arith, c.read_u64-capacity.ensures, w.store.capacity_word, w.store.long) in
-    let work-room : records_offset + record_size * c.read_u64-capacity.result ≤ length c.args.work.now = let w : GenerationBytes c.args.s.now _ _ = generation_in c.args.s.now c.requires.0 in
+    let work_room : records_offset + record_size * c.read_u64-capacity.result ≤ length c.args.work.now = let w : GenerationBytes c.args.s.now _ _ = generation_in c.args.s.now c.requires.0 in
     omega (arith, c.read_u64-capacity.ensures, w.store.capacity_word, c.requires.2) in
-    omega (arith, within, left_few, room, work-room)
+    omega (arith, within, left_few, room, work_room)
 
 pub overflow_mul-n-2 : goal.overflow_mul-n-2
 overflow_mul-n-2 c =
@@ -116,9 +116,9 @@ pub clear-requires : goal.clear-requires
 clear-requires c =
     let within : c.top_start.result + c.top_count-n.result ≤ c.read_u64-capacity.result = all_fit c.args.s.now _ _ _ c.requires.0 c.top_start.ensures c.top_count-n.ensures c.read_u64-capacity.ensures in
     let left_few : c.args.left ≤ c.top_start.result = omega (arith, c.top_start.ensures, c.requires.1) in
-    let work-room : records_offset + record_size * c.read_u64-capacity.result ≤ length c.args.work.now = let w : GenerationBytes c.args.s.now _ _ = generation_in c.args.s.now c.requires.0 in
+    let work_room : records_offset + record_size * c.read_u64-capacity.result ≤ length c.args.work.now = let w : GenerationBytes c.args.s.now _ _ = generation_in c.args.s.now c.requires.0 in
     omega (arith, c.read_u64-capacity.ensures, w.store.capacity_word, c.requires.2) in
-    omega (arith, within, left_few, work-room, c.place.auto.s)
+    omega (arith, within, left_few, work_room, c.place.auto.s)
 
 pub returns : goal.returns
 returns c =

@@ -37,16 +37,16 @@ slice_bounds-place-end c =
 pub place-requires : goal.place-requires
 place-requires c =
     let few : c.kept_layers-k.result ≤ 255 = omega (arith, c.kept_layers-k.ensures, kept_few (generation_of c.args.s.now).base, c.requires.1) in
-    let work-room : records_offset + record_size * c.read_u64-capacity.result ≤ length c.args.work.now = let z : StoreBytes c.args.s.now _ = store_in c.args.s.now c.requires.0.is_store in
+    let work_room : records_offset + record_size * c.read_u64-capacity.result ≤ length c.args.work.now = let z : StoreBytes c.args.s.now _ = store_in c.args.s.now c.requires.0.is_store in
     omega (arith, c.read_u64-capacity.ensures, z.capacity_word, c.requires.2) in
-    omega (arith, few, work-room, c.write_header.auto.work)
+    omega (arith, few, work_room, c.write_header.auto.work)
 
 pub add_layer-requires : goal.add_layer-requires
 add_layer-requires c =
     let few : c.kept_layers-k.result ≤ 255 = omega (arith, c.kept_layers-k.ensures, kept_few (generation_of c.args.s.now).base, c.requires.1) in
-    let work-room : records_offset + record_size * c.read_u64-capacity.result ≤ length c.args.work.now = let z : StoreBytes c.args.s.now _ = store_in c.args.s.now c.requires.0.is_store in
+    let work_room : records_offset + record_size * c.read_u64-capacity.result ≤ length c.args.work.now = let z : StoreBytes c.args.s.now _ = store_in c.args.s.now c.requires.0.is_store in
     omega (arith, c.read_u64-capacity.ensures, z.capacity_word, c.requires.2) in
-    (omega (arith, few), omega (arith, work-room, c.write_header.auto.work, c.place.auto.s))
+    (omega (arith, few), omega (arith, work_room, c.write_header.auto.work, c.place.auto.s))
 
 pub overflow_mul-capacity : goal.overflow_mul-capacity
 overflow_mul-capacity c =
@@ -68,9 +68,9 @@ slice_bounds-place-end-2 c =
 
 pub place-requires-2 : goal.place-requires-2
 place-requires-2 c =
-    let work-room : records_offset + record_size * c.read_u64-capacity.result ≤ length c.args.work.now = let z : StoreBytes c.args.s.now _ = store_in c.args.s.now c.requires.0.is_store in
+    let work_room : records_offset + record_size * c.read_u64-capacity.result ≤ length c.args.work.now = let z : StoreBytes c.args.s.now _ = store_in c.args.s.now c.requires.0.is_store in
     omega (arith, c.read_u64-capacity.ensures, z.capacity_word, c.requires.2) in
-    omega (arith, work-room, c.write_header.auto.work, c.place.auto.s, c.add_layer.auto.work)
+    omega (arith, work_room, c.write_header.auto.work, c.place.auto.s, c.add_layer.auto.work)
 
 pub returns : goal.returns
 returns c =

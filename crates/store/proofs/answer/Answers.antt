@@ -15,11 +15,11 @@ returns-then-not-flags_known c =
 
 pub returns-then-not-is_store : goal.returns-then-not-is_store
 returns-then-not-is_store c =
-    let flags-hold : let a = c.args in
+    let flags_hold : let a = c.args in
     answer_step a.s.now a.anchor a.members.now ≡ bytes_step a.s.now (alone (on_store (at_anchor a.anchor (answer (members_of a.members.now))))) = let a = c.args in
     known_flags a.s.now a.anchor a.members.now c.flags_known.result c.flags_known.ensures c.if-not-flags_known.false in
     let a = c.args in
-    stepped (flags-hold
+    stepped (flags_hold
     ∙ refused_20 a.s.now _ c.is_store.ensures (at_anchor a.anchor (answer (members_of a.members.now))) 0 0 c.if-not-is_store.true)
 
 pub answer-requires : goal.answer-requires
@@ -29,7 +29,7 @@ answer-requires c =
 
 pub returns : goal.returns
 returns c =
-    let flags-hold : let a = c.args in
+    let flags_hold : let a = c.args in
     answer_step a.s.now a.anchor a.members.now ≡ bytes_step a.s.now (alone (on_store (at_anchor a.anchor (answer (members_of a.members.now))))) = let a = c.args in
     known_flags a.s.now a.anchor a.members.now c.flags_known.result c.flags_known.ensures c.if-not-flags_known.false in
-    rw flags-hold c.answer.ensures
+    rw flags_hold c.answer.ensures

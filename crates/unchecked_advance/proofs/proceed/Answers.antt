@@ -21,20 +21,20 @@ returns-then-guard-eq0 c =
 pub carried-requires : goal.carried-requires
 carried-requires c =
     let other : Other (store_of c.args.s.now).installed c.args.child = not_here (store_of c.args.s.now).installed c.args.child _ c.guard.ensures c.if-guard-eq0.false in
-    let by-carry : let a = c.args in
+    let by_carry : let a = c.args in
     Carries a.s.now a.child a.parent_hash a.skip a.addresses.now a.writes.now = let a = c.args in
     proceed_carry a.s.now a.child a.parent_hash a.skip a.addresses.now a.writes.now c.requires.0 other _ _ c.classify_link-lineage.ensures c.skip_of-k.ensures (sym c.carries.ensures ∙ c.if-carries.true) in
-    let b = by-carry in
+    let b = by_carry in
     (b.has, c.requires.1, b.next, c.requires.2, c.requires.3)
 
 pub returns-then-carries : goal.returns-then-carries
 returns-then-carries c =
     let other : Other (store_of c.args.s.now).installed c.args.child = not_here (store_of c.args.s.now).installed c.args.child _ c.guard.ensures c.if-guard-eq0.false in
-    let by-carry : let a = c.args in
+    let by_carry : let a = c.args in
     Carries a.s.now a.child a.parent_hash a.skip a.addresses.now a.writes.now = let a = c.args in
     proceed_carry a.s.now a.child a.parent_hash a.skip a.addresses.now a.writes.now c.requires.0 other _ _ c.classify_link-lineage.ensures c.skip_of-k.ensures (sym c.carries.ensures ∙ c.if-carries.true) in
     let a = c.args in
-    as_performed a.s.now a.child a.parent_hash a.skip a.addresses.now a.writes.now _ _ _ _ a.out.now by-carry.performs (c.carried.ensures a.skip)
+    as_performed a.s.now a.child a.parent_hash a.skip a.addresses.now a.writes.now _ _ _ _ a.out.now by_carry.performs (c.carried.ensures a.skip)
 
 pub returns : goal.returns
 returns c =

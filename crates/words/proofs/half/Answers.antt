@@ -1,6 +1,6 @@
 -- `words::half` meets its contract. Assumes nothing.
 use lib.ListN.{length}
-use Prim.Native.Nat.{ℕ, ◌+◌, ◌<◌, ◌-◌, ◌^◌}
+use Prim.Native.Nat.{ℕ, ◌+◌, ◌<◌, ◌^◌}
 use mathlib.Core.Path.{◌≡◌, refl, subst}
 use native.Mathlib.Omega.{arith}
 use borrow.Author.Rules.{rules}

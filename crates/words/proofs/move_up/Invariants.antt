@@ -1,6 +1,6 @@
 -- The loop of `words::move_up`: what it keeps, and its measure.
 use mathlib.Core.Path.{◌≡◌}
-use Prim.Native.Nat.{◌≤◌, ◌-◌}
+use Prim.Native.Nat.{◌≤◌}
 use lib.ListN.{length}
 use Rattle.words.proofs.Moves.{moving}
 use Rattle.words.proofs.move_up.Given as goal
