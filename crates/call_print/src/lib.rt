@@ -5,6 +5,8 @@ ghost use Rattle.call_print.specs.Part.{PartAs};
 
 use call_run::RunReply;
 use reader::Cursor;
+use std::io;
+use std::io::Write;
 
 // The bytes of a store of 256 records.
 const STORE_SIZE: usize = layout::RECORDS_OFFSET + 256 * layout::RECORD_SIZE;
@@ -57,8 +59,8 @@ fn run_part(
     }
 }
 
-// Runs a list on its own store and writes its listing to a file descriptor, part by part.
-fn print_parts(fd: i32, list: &[u8])
+// Runs a list on its own store and writes its listing to a writer, part by part.
+fn print_parts<W: Write>(to: &mut W, list: &[u8]) -> io::Result<()>
     requires { length list.now ≤ 65536 }
 {
     let mut s = [0u8; STORE_SIZE];
@@ -79,10 +81,11 @@ fn print_parts(fd: i32, list: &[u8])
             &mut out,
         );
         let written = part.written;
-        io::write_all(fd, &out[0..written]);
+        to.write_all(&out[0..written])?;
         next = part.next;
         ended = part.last;
     }
+    Ok(())
 }
 
 // The bytes of a list that are taken: the first 65,536.
@@ -95,8 +98,8 @@ fn taken(list: &[u8]) -> usize
     65536
 }
 
-// Writes the listing of a list's first 65,536 bytes to a file descriptor. What follows them is not read.
-pub fn print_listing(fd: i32, list: &[u8]) {
+// Writes the listing of a list's first 65,536 bytes to a writer. What follows them is not read.
+pub fn print_listing<W: Write>(to: &mut W, list: &[u8]) -> io::Result<()> {
     let n = taken(list);
-    print_parts(fd, &list[0..n]);
+    print_parts(to, &list[0..n])
 }

@@ -1,8 +1,9 @@
 // The program `calls`: the first 65,536 bytes of standard input are a call list; its listing goes to standard output. docs/REFERENCE.md has the form of both.
-use libc::{STDIN_FILENO, STDOUT_FILENO};
+use std::io;
+use std::io::Read;
 
-fn main() {
-    let mut list = io::large_buffer();
-    let n = io::read_full(STDIN_FILENO, &mut list);
-    call_print::print_listing(STDOUT_FILENO, &list[0..n]);
+fn main(rt: HostRuntime) -> io::Result<()> {
+    let mut list = Vec::new(rt.alloc());
+    rt.reader().take(65536).read_to_end(&mut list)?;
+    call_print::print_listing(&mut io::writer(&rt), list.as_slice())
 }

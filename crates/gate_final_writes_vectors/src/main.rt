@@ -1,9 +1,10 @@
 // Runs final writes on recorded vectors and compares with what the Rust's `seed_from_accounts` answered. tools/finals_vectors.py has the vectors' form.
-ghost use Rattle.std.specs.Prelude.{◌+◌, ◌*◌, ◌≤◌, length};
+ghost use Rattle.std.specs.Prelude.{◌+◌, ◌*◌, ◌≤◌, length, IfOk};
 
 use bal_plan::Cap;
 use final_writes::FinalWritesReply;
-use libc::STDOUT_FILENO;
+use std::io::Read;
+use std::{fs, io};
 
 // What an output holds before a call.
 const BEFORE: u8 = 0xa5;
@@ -176,12 +177,27 @@ fn replay(head: &[u8], body: &[u8], writes_out: &mut [u8], reads_out: &mut [u8])
     outputs_hold(head, body, &writes_out[..w], &reads_out[..r])
 }
 
-// Reads n bytes of the file.
-fn filled(fd: i32, buf: &mut [u8], n: usize) -> bool {
-    if buf.len() < n {
-        return false;
+// Reads until the buffer is full or the input ends; how many bytes it got.
+fn read_full(file: &mut impl Read, buf: &mut [u8]) -> io::Result<usize>
+    ensures { IfOk result (λ n. n ≤ length buf.new) }
+{
+    let mut done = 0;
+    while done < buf.len() {
+        let n = file.read(&mut buf[done..])?;
+        if n == 0 {
+            break;
+        }
+        done += n;
     }
-    io::read_full(fd, &mut buf[..n]) == n
+    Ok(done)
+}
+
+// Reads n bytes of the file.
+fn filled(file: &mut impl Read, buf: &mut [u8], n: usize) -> io::Result<bool> {
+    if buf.len() < n {
+        return Ok(false);
+    }
+    Ok(read_full(file, &mut buf[..n])? == n)
 }
 
 // The bytes of an output before a call.
@@ -202,29 +218,29 @@ fn body_size(head: &[u8]) -> usize {
 }
 
 // The next vector of the file.
-fn run_next(fd: i32) -> Run {
-    let mut head = io::buffer();
-    if !filled(fd, &mut head, 128) {
-        return Run::End;
+fn run_next(file: &mut impl Read) -> io::Result<Run> {
+    let mut head = [0u8; 4096];
+    if !filled(file, &mut head, 128)? {
+        return Ok(Run::End);
     }
-    let mut body = io::large_buffer();
-    if !filled(fd, &mut body, body_size(&head)) {
-        return Run::Differs;
+    let mut body = [0u8; 65536];
+    if !filled(file, &mut body, body_size(&head))? {
+        return Ok(Run::Differs);
     }
-    let mut writes_out = io::large_buffer();
-    let mut reads_out = io::large_buffer();
+    let mut writes_out = [0u8; 65536];
+    let mut reads_out = [0u8; 65536];
     prepare(&mut writes_out);
     prepare(&mut reads_out);
     if replay(&head, &body, &mut writes_out, &mut reads_out) {
-        Run::Same
+        Ok(Run::Same)
     } else {
-        Run::Differs
+        Ok(Run::Differs)
     }
 }
 
-fn say(n: u64, what: &[u8]) {
-    io::print_decimal(STDOUT_FILENO, n);
-    io::write_all(STDOUT_FILENO, what);
+fn say(rt: &impl Print, n: u64, what: &[u8]) -> io::Result<()> {
+    rt.print(n)?;
+    rt.write_all(what)
 }
 
 // The vectors run, and those that differ.
@@ -244,29 +260,23 @@ fn fault(r: Run) -> u64
     if let Run::Differs = r { 1 } else { 0 }
 }
 
-fn run_all(fd: i32) -> Tally {
+fn run_all(file: &mut impl Read) -> io::Result<Tally> {
     let mut run: u64 = 0;
     let mut different: u64 = 0;
     while run < 100000 {
-        let r = run_next(fd);
+        let r = run_next(file)?;
         if is_end(r) {
-            return Tally { run, different };
+            return Ok(Tally { run, different });
         }
         different += fault(r);
         run += 1;
     }
-    Tally { run, different }
+    Ok(Tally { run, different })
 }
 
-fn main() {
-    let path = b"vectors";
-    let fd = os::open_read(path);
-    if fd < 0 {
-        os::fail(path);
-        return;
-    }
-    let t = run_all(fd);
-    libc::close(fd);
-    say(t.run, b" vectors\n");
-    say(t.different, b" differences\n");
+fn main(rt: HostRuntime) -> io::Result<()> {
+    let mut file = fs::open(&rt, "vectors")?;
+    let t = run_all(&mut file)?;
+    say(&rt, t.run, b" vectors\n")?;
+    say(&rt, t.different, b" differences\n")
 }

@@ -1,22 +1,20 @@
 // Prints the listings of four call lists that stand in standard input one after the other: one whose listing has several parts; one where what a put and
 // reads left in one part is looked up in the next; one with calls past the first 65,536 bytes; one whose 65,536th byte stands inside a call. `stdout`
 // has what the oracle printed for each; tools/gate_long_lists.py makes both.
-use libc::{STDIN_FILENO, STDOUT_FILENO};
+use std::io;
+use std::io::Read;
 
-// Reads a list of as many bytes as lent and prints its listing after its name.
-fn print_next(name: &[u8], list: &mut [u8]) {
-    let n = io::read_full(STDIN_FILENO, list);
-    io::write_all(STDOUT_FILENO, name);
-    call_print::print_listing(STDOUT_FILENO, &list[0..n]);
+// Reads a list of n bytes and prints its listing after its name.
+fn print_next(rt: &(impl Input + Print + Alloc), name: &[u8], n: u64) -> io::Result<()> {
+    let mut list = Vec::new(rt.alloc());
+    rt.reader().take(n).read_to_end(&mut list)?;
+    rt.write_all(name)?;
+    call_print::print_listing(&mut io::writer(rt), list.as_slice())
 }
 
-fn main() {
-    let mut parts = [0u8; 65403];
-    print_next(b"several parts\n", &mut parts);
-    let mut across = [0u8; 15300];
-    print_next(b"a put looked up in the next part\n", &mut across);
-    let mut past = [0u8; 76679];
-    print_next(b"calls past the limit\n", &mut past);
-    let mut inside = [0u8; 66241];
-    print_next(b"the limit inside a call\n", &mut inside);
+fn main(rt: HostRuntime) -> io::Result<()> {
+    print_next(&rt, b"several parts\n", 65403)?;
+    print_next(&rt, b"a put looked up in the next part\n", 15300)?;
+    print_next(&rt, b"calls past the limit\n", 76679)?;
+    print_next(&rt, b"the limit inside a call\n", 66241)
 }

@@ -3,9 +3,9 @@
 ghost use Rattle.std.specs.Prelude.{◌≡◌, length};
 ghost use Rattle.model.specs.Refusals.{store_size};
 
-use libc::STDOUT_FILENO;
 use model::delta_snapshot::{Retention, Slot};
 use model::storage_memo::{Address, ReadAnchor, U256};
+use std::io;
 use store::{AnswerReply, ReadReply, TakeReply};
 
 // The bytes of a store of four records.
@@ -28,70 +28,71 @@ fn slot(n: u64) -> Slot {
     }
 }
 
-fn say(text: &[u8]) {
-    io::write_all(STDOUT_FILENO, text);
+fn say(rt: &impl Print, text: &[u8]) -> io::Result<()> {
+    rt.write_all(text)
 }
 
 // A word and a number, with a blank before each.
-fn field(word: &[u8], n: u64) {
-    say(b" ");
-    say(word);
-    say(b" ");
-    io::print_decimal(STDOUT_FILENO, n);
+fn field(rt: &impl Print, word: &[u8], n: u64) -> io::Result<()> {
+    say(rt, b" ")?;
+    say(rt, word)?;
+    say(rt, b" ")?;
+    rt.print(n)
 }
 
 // A value in hex.
-fn print_value(v: U256) {
-    say(b" value ");
-    io::print_hex(STDOUT_FILENO, v.w0, 16);
-    io::print_hex(STDOUT_FILENO, v.w1, 16);
-    io::print_hex(STDOUT_FILENO, v.w2, 16);
-    io::print_hex(STDOUT_FILENO, v.w3, 16);
+fn print_value(rt: &impl Print, v: U256) -> io::Result<()> {
+    say(rt, b" value ")?;
+    let w0 = v.w0;
+    let w1 = v.w1;
+    let w2 = v.w2;
+    let w3 = v.w3;
+    print!(rt; "{w0:016x}{w1:016x}{w2:016x}{w3:016x}")
 }
 
-fn print_read(label: &[u8], r: ReadReply) {
-    say(label);
+fn print_read(rt: &impl Print, label: &[u8], r: ReadReply) -> io::Result<()> {
+    say(rt, label)?;
     match r {
-        ReadReply::Refused(n) => field(b"no", n),
-        ReadReply::Value(v) => print_value(v),
-        ReadReply::Waiting(n) => field(b"wait", n),
+        ReadReply::Refused(n) => field(rt, b"no", n)?,
+        ReadReply::Value(v) => print_value(rt, v)?,
+        ReadReply::Waiting(n) => field(rt, b"wait", n)?,
     }
-    say(b"\n");
+    say(rt, b"\n")
 }
 
-fn print_take(label: &[u8], r: TakeReply) {
-    say(label);
+fn print_take(rt: &impl Print, label: &[u8], r: TakeReply) -> io::Result<()> {
+    say(rt, label)?;
     match r {
-        TakeReply::Refused(n) => field(b"no", n),
-        TakeReply::Listed(n) => field(b"take", n),
+        TakeReply::Refused(n) => field(rt, b"no", n)?,
+        TakeReply::Listed(n) => field(rt, b"take", n)?,
     }
-    say(b"\n");
+    say(rt, b"\n")
 }
 
-fn print_answer(label: &[u8], r: AnswerReply) {
-    say(label);
+fn print_answer(rt: &impl Print, label: &[u8], r: AnswerReply) -> io::Result<()> {
+    say(rt, label)?;
     match r {
-        AnswerReply::Refused(n) => field(b"no", n),
+        AnswerReply::Refused(n) => field(rt, b"no", n)?,
         AnswerReply::Answered {
             members,
             errors,
             woken,
         } => {
-            field(b"members", members);
-            field(b"errors", errors);
-            field(b"woken", woken);
+            field(rt, b"members", members)?;
+            field(rt, b"errors", errors)?;
+            field(rt, b"woken", woken)?;
         }
     }
-    say(b"\n");
+    say(rt, b"\n")
 }
 
 // Whether bytes are these.
-fn print_same(label: &[u8], bytes: &[u8], expected: &[u8]) {
-    say(label);
-    if check::same(bytes, expected) {
-        say(b" yes\n");
+fn print_same(rt: &impl Print, label: &[u8], bytes: &[u8], expected: &[u8]) -> io::Result<()> {
+    say(rt, label)?;
+    if bytes == expected {
+        say(rt, b" yes\n")
     } else {
-        say(b" no\n");
+        say(rt, b" no\n")
     }
 }
 
@@ -113,209 +114,252 @@ fn prepare() -> [u8; STORE_SIZE]
 }
 
 // A read at the limit.
-fn read_at_limit(label: &[u8], s: &mut [u8; STORE_SIZE], n: u64) {
+fn read_at_limit(
+    rt: &impl Print,
+    label: &[u8],
+    s: &mut [u8; STORE_SIZE],
+    n: u64,
+) -> io::Result<()> {
     let before = *s;
-    print_read(label, store::read(s, ReadAnchor::at(7), slot(n)));
-    print_same(b"  bytes kept:", s, &before);
+    print_read(rt, label, store::read(s, ReadAnchor::at(7), slot(n)))?;
+    print_same(rt, b"  bytes kept:", s, &before)
 }
 
 // Another block is installed; its reads are counted anew.
-fn at_next_block(s: &mut [u8; STORE_SIZE]) {
+fn at_next_block(rt: &impl Print, s: &mut [u8; STORE_SIZE]) -> io::Result<()> {
     store::install(s, ReadAnchor::at(8));
     print_read(
+        rt,
         b"a read at another anchor:",
         store::read(s, ReadAnchor::at(8), slot(1)),
-    );
+    )
 }
 
 // Accepted and served reads: all that a generation can have, but one. Then the last read, of a slot that is served or of one that is not, and more.
-fn last_read(n: u64) {
+fn last_read(rt: &impl Print, n: u64) -> io::Result<()> {
     let mut s = prepare();
     words::write_u64(&mut s, layout::ACCEPTED_OFFSET, 4294967294);
     words::write_u64(&mut s, layout::SERVED_OFFSET, 4294967294);
-    read_at_limit(b"the last read:", &mut s, n);
-    read_at_limit(b"one more, of a served slot:", &mut s, 1);
-    read_at_limit(b"one more, of another slot:", &mut s, 2);
-    read_at_limit(b"one more, of a third slot:", &mut s, 3);
-    at_next_block(&mut s);
+    read_at_limit(rt, b"the last read:", &mut s, n)?;
+    read_at_limit(rt, b"one more, of a served slot:", &mut s, 1)?;
+    read_at_limit(rt, b"one more, of another slot:", &mut s, 2)?;
+    read_at_limit(rt, b"one more, of a third slot:", &mut s, 3)?;
+    at_next_block(rt, &mut s)
 }
 
 // A take to 103 bytes, of which the output keeps each.
-fn take_short(label: &[u8], s: &mut [u8; STORE_SIZE], anchor: ReadAnchor) {
+fn take_short(
+    rt: &impl Print,
+    label: &[u8],
+    s: &mut [u8; STORE_SIZE],
+    anchor: ReadAnchor,
+) -> io::Result<()> {
     let before = *s;
     let mut out = [46u8; 103];
-    print_take(label, store::take(s, anchor, &mut out));
-    print_same(b"  store kept:", s, &before);
-    print_same(b"  output kept:", &out, &[46u8; 103]);
+    print_take(rt, label, store::take(s, anchor, &mut out))?;
+    print_same(rt, b"  store kept:", s, &before)?;
+    print_same(rt, b"  output kept:", &out, &[46u8; 103])
 }
 
 // A take to 160 bytes, of which the last 56 are kept.
-fn take_long(s: &mut [u8; STORE_SIZE], anchor: ReadAnchor) {
+fn take_long(rt: &impl Print, s: &mut [u8; STORE_SIZE], anchor: ReadAnchor) -> io::Result<()> {
     let mut out = [46u8; 160];
     print_take(
+        rt,
         b"take of 2 slots to 160 bytes:",
         store::take(s, anchor, &mut out),
-    );
+    )?;
     print_same(
+        rt,
         b"  the slots, rising, then the output's own bytes:",
         &out,
         b"aaaabbbbbbbbccccccccddddddddeeeeeeeeffffffffslot0002aaaabbbbbbbbccccccccddddddddeeeeeeeeffffffffslot0003........................................................",
-    );
+    )
 }
 
 // Takes of two queued slots, to outputs whose bytes are dots.
-fn takes() {
+fn takes(rt: &impl Print) -> io::Result<()> {
     let anchor = ReadAnchor::at(7);
     let mut s = prepare();
     store::read(&mut s, anchor, slot(3));
     store::read(&mut s, anchor, slot(2));
-    take_short(b"take of 2 slots to 103 bytes:", &mut s, anchor);
-    take_short(b"take at another anchor:", &mut s, ReadAnchor::at(8));
-    take_long(&mut s, anchor);
-    take_short(b"take of none to 103 bytes:", &mut s, anchor);
+    take_short(rt, b"take of 2 slots to 103 bytes:", &mut s, anchor)?;
+    take_short(rt, b"take at another anchor:", &mut s, ReadAnchor::at(8))?;
+    take_long(rt, &mut s, anchor)?;
+    take_short(rt, b"take of none to 103 bytes:", &mut s, anchor)
 }
 
 // An answer at block 7.
-fn answer(label: &[u8], s: &mut [u8; STORE_SIZE], members: &[u8]) {
+fn answer(
+    rt: &impl Print,
+    label: &[u8],
+    s: &mut [u8; STORE_SIZE],
+    members: &[u8],
+) -> io::Result<()> {
     let before = *s;
-    print_answer(label, store::answer(s, ReadAnchor::at(7), members));
-    print_same(b"  bytes kept:", s, &before);
+    print_answer(rt, label, store::answer(s, ReadAnchor::at(7), members))?;
+    print_same(rt, b"  bytes kept:", s, &before)
 }
 
 // A failed answer at block 7.
-fn answer_failed(label: &[u8], s: &mut [u8; STORE_SIZE], slots: &[u8]) {
+fn answer_failed(
+    rt: &impl Print,
+    label: &[u8],
+    s: &mut [u8; STORE_SIZE],
+    slots: &[u8],
+) -> io::Result<()> {
     let before = *s;
-    print_answer(label, store::answer_failed(s, ReadAnchor::at(7), slots));
-    print_same(b"  bytes kept:", s, &before);
+    print_answer(rt, label, store::answer_failed(s, ReadAnchor::at(7), slots))?;
+    print_same(rt, b"  bytes kept:", s, &before)
 }
 
 // A read at block 7.
-fn read(label: &[u8], s: &mut [u8; STORE_SIZE], n: u64) {
-    print_read(label, store::read(s, ReadAnchor::at(7), slot(n)));
+fn read(rt: &impl Print, label: &[u8], s: &mut [u8; STORE_SIZE], n: u64) -> io::Result<()> {
+    print_read(rt, label, store::read(s, ReadAnchor::at(7), slot(n)))
 }
 
 // Takes the queue at block 7.
-fn take_all(s: &mut [u8; STORE_SIZE]) {
+fn take_all(rt: &impl Print, s: &mut [u8; STORE_SIZE]) -> io::Result<()> {
     let mut out = [0u8; 3328];
-    print_take(b"take:", store::take(s, ReadAnchor::at(7), &mut out));
+    print_take(rt, b"take:", store::take(s, ReadAnchor::at(7), &mut out))
 }
 
 // Answers to slots 2 and 3 whose last bytes are no whole entry.
-fn cut_answers() {
+fn cut_answers(rt: &impl Print) -> io::Result<()> {
     let mut s = prepare();
-    read(b"  slot 2:", &mut s, 2);
-    read(b"  slot 3:", &mut s, 3);
+    read(rt, b"  slot 2:", &mut s, 2)?;
+    read(rt, b"  slot 3:", &mut s, 3)?;
     answer(
+        rt,
         b"answer before the take:",
         &mut s,
         b"aaaabbbbbbbbccccccccddddddddeeeeeeeeffffffffslot0002\x0112345678ABCDEFGH87654321HGFEDCBA",
-    );
-    take_all(&mut s);
+    )?;
+    take_all(rt, &mut s)?;
     answer(
+        rt,
         b"answer of 84 bytes:",
         &mut s,
         b"aaaabbbbbbbbccccccccddddddddeeeeeeeeffffffffslot0002\x0112345678ABCDEFGH87654321HGFEDCB",
-    );
+    )?;
     answer_failed(
+        rt,
         b"failed answer of 51 bytes:",
         &mut s,
         b"aaaabbbbbbbbccccccccddddddddeeeeeeeeffffffffslot000",
-    );
+    )?;
     answer(
+        rt,
         b"answer of 85 and 84 bytes:",
         &mut s,
         b"aaaabbbbbbbbccccccccddddddddeeeeeeeeffffffffslot0002\x0112345678ABCDEFGH87654321HGFEDCBAaaaabbbbbbbbccccccccddddddddeeeeeeeeffffffffslot0003\x0112345678ABCDEFGH87654321HGFEDCB",
-    );
-    read(b"  slot 2:", &mut s, 2);
-    read(b"  slot 3:", &mut s, 3);
+    )?;
+    read(rt, b"  slot 2:", &mut s, 2)?;
+    read(rt, b"  slot 3:", &mut s, 3)?;
     answer_failed(
+        rt,
         b"failed answer of 52 and 51 bytes:",
         &mut s,
         b"aaaabbbbbbbbccccccccddddddddeeeeeeeeffffffffslot0003aaaabbbbbbbbccccccccddddddddeeeeeeeeffffffffslot000",
-    );
-    read(b"  slot 3:", &mut s, 3);
+    )?;
+    read(rt, b"  slot 3:", &mut s, 3)
 }
 
 // An answer at block 8.
-fn answer_elsewhere(label: &[u8], s: &mut [u8; STORE_SIZE], members: &[u8]) {
+fn answer_elsewhere(
+    rt: &impl Print,
+    label: &[u8],
+    s: &mut [u8; STORE_SIZE],
+    members: &[u8],
+) -> io::Result<()> {
     let before = *s;
-    print_answer(label, store::answer(s, ReadAnchor::at(8), members));
-    print_same(b"  bytes kept:", s, &before);
+    print_answer(rt, label, store::answer(s, ReadAnchor::at(8), members))?;
+    print_same(rt, b"  bytes kept:", s, &before)
 }
 
 // A member's flag byte above 1 is refused before everything else.
-fn unknown_flags() {
+fn unknown_flags(rt: &impl Print) -> io::Result<()> {
     let mut s = prepare();
-    read(b"  slot 2:", &mut s, 2);
-    take_all(&mut s);
+    read(rt, b"  slot 2:", &mut s, 2)?;
+    take_all(rt, &mut s)?;
     answer(
+        rt,
         b"flag 2:",
         &mut s,
         b"aaaabbbbbbbbccccccccddddddddeeeeeeeeffffffffslot0002\x0212345678ABCDEFGH87654321HGFEDCBA",
-    );
+    )?;
     answer(
+        rt,
         b"flag 255:",
         &mut s,
         b"aaaabbbbbbbbccccccccddddddddeeeeeeeeffffffffslot0002\xff12345678ABCDEFGH87654321HGFEDCBA",
-    );
+    )?;
     answer(
+        rt,
         b"a slot twice:",
         &mut s,
         b"aaaabbbbbbbbccccccccddddddddeeeeeeeeffffffffslot0002\x0112345678ABCDEFGH87654321HGFEDCBAaaaabbbbbbbbccccccccddddddddeeeeeeeeffffffffslot0002\x0012345678ABCDEFGH87654321HGFEDCBA",
-    );
+    )?;
     answer(
+        rt,
         b"a slot twice, flag 2:",
         &mut s,
         b"aaaabbbbbbbbccccccccddddddddeeeeeeeeffffffffslot0002\x0112345678ABCDEFGH87654321HGFEDCBAaaaabbbbbbbbccccccccddddddddeeeeeeeeffffffffslot0002\x0212345678ABCDEFGH87654321HGFEDCBA",
-    );
+    )?;
     answer_elsewhere(
+        rt,
         b"at another anchor, flag 1:",
         &mut s,
         b"aaaabbbbbbbbccccccccddddddddeeeeeeeeffffffffslot0002\x0112345678ABCDEFGH87654321HGFEDCBA",
-    );
+    )?;
     answer_elsewhere(
+        rt,
         b"at another anchor, flag 2:",
         &mut s,
         b"aaaabbbbbbbbccccccccddddddddeeeeeeeeffffffffslot0002\x0212345678ABCDEFGH87654321HGFEDCBA",
-    );
+    )?;
     let mut zeros = [0u8; STORE_SIZE];
     answer(
+        rt,
         b"no store, flag 1:",
         &mut zeros,
         b"aaaabbbbbbbbccccccccddddddddeeeeeeeeffffffffslot0002\x0112345678ABCDEFGH87654321HGFEDCBA",
-    );
+    )?;
     answer(
+        rt,
         b"no store, flag 2:",
         &mut zeros,
         b"aaaabbbbbbbbccccccccddddddddeeeeeeeeffffffffslot0002\x0212345678ABCDEFGH87654321HGFEDCBA",
-    );
+    )
 }
 
 // A value and a refusal, and a flag byte 2 past the last whole entry, which is none.
-fn known_flags() {
+fn known_flags(rt: &impl Print) -> io::Result<()> {
     let mut s = prepare();
-    read(b"  slot 2:", &mut s, 2);
-    read(b"  slot 3:", &mut s, 3);
-    take_all(&mut s);
+    read(rt, b"  slot 2:", &mut s, 2)?;
+    read(rt, b"  slot 3:", &mut s, 3)?;
+    take_all(rt, &mut s)?;
     answer(
+        rt,
         b"flag 1, and 2 in no entry:",
         &mut s,
         b"aaaabbbbbbbbccccccccddddddddeeeeeeeeffffffffslot0002\x0112345678ABCDEFGH87654321HGFEDCBAaaaabbbbbbbbccccccccddddddddeeeeeeeeffffffffslot0003\x0212345678ABCDEFGH87654321HGFEDCB",
-    );
-    read(b"  slot 2:", &mut s, 2);
+    )?;
+    read(rt, b"  slot 2:", &mut s, 2)?;
     answer(
+        rt,
         b"flag 0:",
         &mut s,
         b"aaaabbbbbbbbccccccccddddddddeeeeeeeeffffffffslot0003\x0012345678ABCDEFGH87654321HGFEDCBA",
-    );
-    read(b"  slot 3:", &mut s, 3);
+    )?;
+    read(rt, b"  slot 3:", &mut s, 3)
 }
 
-fn main() {
-    last_read(1);
-    last_read(2);
-    takes();
-    cut_answers();
-    unknown_flags();
-    known_flags();
+fn main(rt: HostRuntime) -> io::Result<()> {
+    last_read(&rt, 1)?;
+    last_read(&rt, 2)?;
+    takes(&rt)?;
+    cut_answers(&rt)?;
+    unknown_flags(&rt)?;
+    known_flags(&rt)
 }

@@ -1,71 +1,73 @@
 // Replays the recorded lists (oracle/recorded). For each it prints the listing, and then what the oracle prints with `--detail`: the lines of each call, an advance's
 // applied writes, the read totals and the place of a fault. `stdout` has what the oracle printed; tools/gate_recorded_calls.py makes it and `data/lists`.
-ghost use Rattle.std.specs.Prelude.{◌≤◌, ◌<◌, length};
+ghost use Rattle.std.specs.Prelude.{◌≤◌, ◌<◌, length, IfOk};
 
 use call_reader::{CallRead, ListedCall};
 use call_run::RunReply;
-use libc::STDOUT_FILENO;
 use reader::Cursor;
+use std::io::Read;
+use std::{fs, io};
 use store::AdvanceReply;
 
 // The bytes of a store of 256 records.
 const STORE_SIZE: usize = layout::RECORDS_OFFSET + 256 * layout::RECORD_SIZE;
 
-fn say(text: &[u8]) {
-    io::write_all(STDOUT_FILENO, text);
+fn say(rt: &impl Print, text: &[u8]) -> io::Result<()> {
+    rt.write_all(text)
 }
 
 // A number with a blank before it.
-fn field(n: u64) {
-    say(b" ");
-    io::print_decimal(STDOUT_FILENO, n);
+fn field(rt: &impl Print, n: u64) -> io::Result<()> {
+    say(rt, b" ")?;
+    rt.print(n)
 }
 
 // The totals of reads, where a generation is installed: coalesced, rounds, members, member errors; then accepted, served, waiting, woken with a value, woken refused.
-fn print_stats(s: &[u8]) {
+fn print_stats(rt: &impl Print, s: &[u8]) -> io::Result<()> {
     if s.len() < layout::ENDS_OFFSET {
-        return;
+        return Ok(());
     }
     if words::read_u64(s, layout::INSTALLED_OFFSET) == 0 {
-        return;
+        return Ok(());
     }
-    say(b"stats");
-    field(words::read_u64(s, layout::COALESCED_OFFSET));
-    field(words::read_u64(s, layout::ROUNDS_OFFSET));
-    field(words::read_u64(s, layout::MEMBERS_OFFSET));
-    field(words::read_u64(s, layout::ERRORS_OFFSET));
-    say(b"\nreads");
-    field(words::read_u64(s, layout::ACCEPTED_OFFSET));
-    field(words::read_u64(s, layout::SERVED_OFFSET));
-    field(words::read_u64(s, layout::WAITING_OFFSET));
-    field(words::read_u64(s, layout::VALUED_OFFSET));
-    field(words::read_u64(s, layout::REFUSED_OFFSET));
-    say(b"\n");
+    say(rt, b"stats")?;
+    field(rt, words::read_u64(s, layout::COALESCED_OFFSET))?;
+    field(rt, words::read_u64(s, layout::ROUNDS_OFFSET))?;
+    field(rt, words::read_u64(s, layout::MEMBERS_OFFSET))?;
+    field(rt, words::read_u64(s, layout::ERRORS_OFFSET))?;
+    say(rt, b"\nreads")?;
+    field(rt, words::read_u64(s, layout::ACCEPTED_OFFSET))?;
+    field(rt, words::read_u64(s, layout::SERVED_OFFSET))?;
+    field(rt, words::read_u64(s, layout::WAITING_OFFSET))?;
+    field(rt, words::read_u64(s, layout::VALUED_OFFSET))?;
+    field(rt, words::read_u64(s, layout::REFUSED_OFFSET))?;
+    say(rt, b"\n")
 }
 
 // The slot of entry i of an output.
-fn print_slot(entries: &[u8], i: usize) {
+fn print_slot(rt: &impl Print, entries: &[u8], i: usize) -> io::Result<()> {
     if entries.len() / 52 <= i {
-        return;
+        return Ok(());
     }
     let mut line = [0u8; 110];
     let slot = reader::slot_at(entries, i * 52);
     listing::slot_line(&mut line, 0, slot);
-    say(b"  ");
-    say(&line);
+    say(rt, b"  ")?;
+    say(rt, &line)
 }
 
 // The writes that an advance applied.
-fn print_applied(entries: &[u8], applied: u64) {
-    say(b"applied");
-    field(applied);
-    say(b"\n");
+fn print_applied(rt: &impl Print, entries: &[u8], applied: u64) -> io::Result<()> {
+    say(rt, b"applied")?;
+    field(rt, applied)?;
+    say(rt, b"\n")?;
     let n = applied as usize;
     let mut i: usize = 0;
     while i < n {
-        print_slot(entries, i);
+        print_slot(rt, entries, i)?;
         i += 1;
     }
+    Ok(())
 }
 
 // Whether lines begin with a refusal.
@@ -77,17 +79,17 @@ fn is_refusal(lines: &[u8]) -> bool {
 }
 
 // Prints lines; whether they are no refusal.
-fn print_lines(out: &[u8], written: usize) -> bool {
+fn print_lines(rt: &impl Print, out: &[u8], written: usize) -> io::Result<bool> {
     if out.len() < written {
-        return false;
+        return Ok(false);
     }
     let lines = &out[0..written];
-    say(lines);
-    !is_refusal(lines)
+    say(rt, lines)?;
+    Ok(!is_refusal(lines))
 }
 
 // Runs one call and prints its lines; whether it was accepted.
-fn print_call(call: &[u8], s: &mut [u8]) -> bool {
+fn print_call(rt: &impl Print, call: &[u8], s: &mut [u8]) -> io::Result<bool> {
     let mut work = [0u8; STORE_SIZE];
     let mut entries = [0u8; 53248];
     let mut members = [0u8; 105060];
@@ -101,17 +103,17 @@ fn print_call(call: &[u8], s: &mut [u8]) -> bool {
         &mut members,
         &mut out,
     ) {
-        RunReply::Refused(_) => false,
+        RunReply::Refused(_) => Ok(false),
         RunReply::Listed {
             next: _,
             written,
             ended: _,
-        } => print_lines(&out, written),
+        } => print_lines(rt, &out, written),
         RunReply::Broken {
             fault: _,
             place: _,
             written,
-        } => print_lines(&out, written),
+        } => print_lines(rt, &out, written),
     }
 }
 
@@ -149,19 +151,25 @@ fn end_of(list: &[u8], start: usize, count: usize, width: usize) -> usize
 }
 
 // Prints the writes that an advance of these lists applies to a copy of the store. It has to leave the bytes that the run left.
-fn print_advance(list: &[u8], call: ListedCall, before: &mut [u8], after: &[u8]) {
+fn print_advance(
+    rt: &impl Print,
+    list: &[u8],
+    call: ListedCall,
+    before: &mut [u8],
+    after: &[u8],
+) -> io::Result<()> {
     let ListedCall::Advance(child, parent_hash, prepared) = call else {
-        return;
+        return Ok(());
     };
     let addresses = prepared.relevance;
     let writes = prepared.writes;
     let first_address = addresses.start;
     let first_write = writes.start;
     if list.len() < first_address {
-        return;
+        return Ok(());
     }
     if list.len() < first_write {
-        return;
+        return Ok(());
     }
     let addresses_end = end_of(list, first_address, addresses.count, 20);
     let writes_end = end_of(list, first_write, writes.count, 84);
@@ -178,130 +186,147 @@ fn print_advance(list: &[u8], call: ListedCall, before: &mut [u8], after: &[u8])
         &mut entries,
     );
     if !same(before, after) {
-        say(b"the bytes differ\n");
+        say(rt, b"the bytes differ\n")?;
     }
     let AdvanceReply::Advanced(report) = answer else {
-        return;
+        return Ok(());
     };
     let counts = report.writes;
-    print_applied(&entries, counts.applied);
+    print_applied(rt, &entries, counts.applied)
 }
 
 // A call with the lines that the listing leaves out.
-fn print_detail(list: &[u8], at: usize, next: usize, call: ListedCall, s: &mut [u8])
+fn print_detail(
+    rt: &impl Print,
+    list: &[u8],
+    at: usize,
+    next: usize,
+    call: ListedCall,
+    s: &mut [u8],
+) -> io::Result<()>
     requires { (at ≤ next) × (next ≤ length list.now) }
 {
     let mut before = [0u8; STORE_SIZE];
     copy(&mut before, s);
-    if !print_call(&list[at..next], s) {
-        return;
+    if !print_call(rt, &list[at..next], s)? {
+        return Ok(());
     }
-    print_advance(list, call, &mut before, s);
-    print_stats(s);
+    print_advance(rt, list, call, &mut before, s)?;
+    print_stats(rt, s)
 }
 
 // The refusal that ends a list, and the place of the byte that it is for.
-fn print_fault(n: u64, place: Cursor) {
-    say(b"no");
-    field(n);
-    say(b"\nat");
-    field(place.at as u64);
-    say(b"\n");
+fn print_fault(rt: &impl Print, n: u64, place: Cursor) -> io::Result<()> {
+    say(rt, b"no")?;
+    field(rt, n)?;
+    say(rt, b"\nat")?;
+    field(rt, place.at as u64)?;
+    say(rt, b"\n")
 }
 
 // The next call of a list with its detail; the place after it.
-fn print_next(list: &[u8], at: usize, s: &mut [u8]) -> usize
+fn print_next(rt: &impl Print, list: &[u8], at: usize, s: &mut [u8]) -> io::Result<usize>
     requires { at < length list.now }
-    ensures { (at < result) × (result ≤ length list.now) }
+    ensures { IfOk result (λ next. (at < next) × (next ≤ length list.now)) }
 {
     match call_reader::read_call(list, Cursor { at }) {
         CallRead::Value(call, after) => {
             let next = after.at;
-            print_detail(list, at, next, call, s);
-            next
+            print_detail(rt, list, at, next, call, s)?;
+            Ok(next)
         }
         CallRead::Fault(n, place) => {
-            print_fault(n, place);
-            list.len()
+            print_fault(rt, n, place)?;
+            Ok(list.len())
         }
     }
 }
 
 // The calls of a list with their detail.
-fn print_calls(list: &[u8]) {
+fn print_calls(rt: &impl Print, list: &[u8]) -> io::Result<()> {
     let mut s = [0u8; STORE_SIZE];
     let mut at: usize = 0;
     while at < list.len() {
-        at = print_next(list, at, &mut s);
+        at = print_next(rt, list, at, &mut s)?;
     }
+    Ok(())
 }
 
 // A list's listing, and its detail.
-fn replay(list: &[u8]) {
-    say(b"listing\n");
-    call_print::print_listing(STDOUT_FILENO, list);
-    say(b"detail\n");
-    print_calls(list);
+fn replay(rt: &impl Print, list: &[u8]) -> io::Result<()> {
+    say(rt, b"listing\n")?;
+    call_print::print_listing(&mut io::writer(rt), list)?;
+    say(rt, b"detail\n")?;
+    print_calls(rt, list)
+}
+
+// Reads until the buffer is full or the input ends; how many bytes it got.
+fn read_full(file: &mut impl Read, buf: &mut [u8]) -> io::Result<usize>
+    ensures { IfOk result (λ n. n ≤ length buf.new) }
+{
+    let mut done = 0;
+    while done < buf.len() {
+        let n = file.read(&mut buf[done..])?;
+        if n == 0 {
+            break;
+        }
+        done += n;
+    }
+    Ok(done)
 }
 
 // A number of eight bytes at the beginning of a file's rest, or 0 at its end.
-fn next_number(fd: i32) -> u64 {
+fn next_number(file: &mut impl Read) -> io::Result<u64> {
     let mut word = [0u8; 8];
-    if io::read_full(fd, &mut word) < 8 {
-        return 0;
+    if read_full(file, &mut word)? < 8 {
+        return Ok(0);
     }
-    words::read_u64(&word, 0)
+    Ok(words::read_u64(&word, 0))
 }
 
 // The next bytes of the file, at most as many as the buffer has; how many it got.
-fn read_up_to(fd: i32, buf: &mut [u8], n: u64) -> usize
-    ensures { result ≤ length buf.new }
+fn read_up_to(file: &mut impl Read, buf: &mut [u8], n: u64) -> io::Result<usize>
+    ensures { IfOk result (λ got. got ≤ length buf.new) }
 {
     let all = buf.len();
     if all as u64 <= n {
-        return io::read_full(fd, buf);
+        return read_full(file, buf);
     }
     let k = n as usize;
-    io::read_full(fd, &mut buf[0..k])
+    read_full(file, &mut buf[0..k])
 }
 
 // The next list of the file, of which the first 65,536 bytes count. Whether there was one: a list has at least one byte.
-fn replay_next(fd: i32) -> bool {
-    let n = next_number(fd);
+fn replay_next(rt: &impl Print, file: &mut impl Read) -> io::Result<bool> {
+    let n = next_number(file)?;
     if n == 0 {
-        return false;
+        return Ok(false);
     }
-    let mut list = io::large_buffer();
-    let got = read_up_to(fd, &mut list, n);
+    let mut list = [0u8; 65536];
+    let got = read_up_to(file, &mut list, n)?;
     if 65536 < n {
-        let mut rest = io::buffer();
-        read_up_to(fd, &mut rest, n - 65536);
+        let mut rest = [0u8; 4096];
+        read_up_to(file, &mut rest, n - 65536)?;
     }
-    replay(&list[0..got]);
-    true
+    replay(rt, &list[0..got])?;
+    Ok(true)
 }
 
 // The lists of the file; how many they are.
-fn replay_all(fd: i32) -> u64 {
+fn replay_all(rt: &impl Print, file: &mut impl Read) -> io::Result<u64> {
     let mut lists: u64 = 0;
     while lists < 100000 {
-        if !replay_next(fd) {
-            return lists;
+        if !replay_next(rt, file)? {
+            return Ok(lists);
         }
         lists += 1;
     }
-    lists
+    Ok(lists)
 }
 
-fn main() {
-    let path = b"lists";
-    let fd = os::open_read(path);
-    if fd < 0 {
-        os::fail(path);
-        return;
-    }
-    let lists = replay_all(fd);
-    libc::close(fd);
-    io::print_decimal(STDOUT_FILENO, lists);
-    say(b" lists\n");
+fn main(rt: HostRuntime) -> io::Result<()> {
+    let mut file = fs::open(&rt, "lists")?;
+    let lists = replay_all(&rt, &mut file)?;
+    rt.print(lists)?;
+    say(&rt, b" lists\n")
 }

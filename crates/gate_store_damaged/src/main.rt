@@ -4,9 +4,9 @@
 ghost use Rattle.std.specs.Prelude.{◌≡◌, ◌+◌, ◌≤◌, ◌<◌, length};
 ghost use Rattle.gate_store_damaged.specs.Tally.{total};
 
-use libc::STDOUT_FILENO;
 use model::delta_snapshot::{Retention, Slot};
 use model::storage_memo::{Address, ReadAnchor, U256};
+use std::io;
 use store::{InstallReply, LookReply, OpenReply, PutReply, ReadReply, TakeReply};
 
 // The bytes of a store of four records.
@@ -52,14 +52,14 @@ fn slot(n: u64) -> Slot {
     }
 }
 
-fn say(text: &[u8]) {
-    io::write_all(STDOUT_FILENO, text);
+fn say(rt: &impl Print, text: &[u8]) -> io::Result<()> {
+    rt.write_all(text)
 }
 
-fn print(label: &[u8], n: u64) {
-    say(label);
-    io::print_decimal(STDOUT_FILENO, n);
-    say(b"\n");
+fn print(rt: &impl Print, label: &[u8], n: u64) -> io::Result<()> {
+    say(rt, label)?;
+    rt.print(n)?;
+    say(rt, b"\n")
 }
 
 // A refusal's number, or 0.
@@ -141,12 +141,12 @@ fn listed(r: TakeReply) -> u64 {
 }
 
 // Slot 5 awaits an answer with two waiters and is taken; slot 6 is queued.
-fn await_answers(s: &mut [u8; STORE_SIZE], anchor: ReadAnchor) {
+fn await_answers(rt: &impl Print, s: &mut [u8; STORE_SIZE], anchor: ReadAnchor) -> io::Result<()> {
     let mut out = [0u8; 52];
-    print(b"read 5 ", waits(store::read(s, anchor, slot(5))));
-    print(b"read 5 again ", waits(store::read(s, anchor, slot(5))));
-    print(b"take ", listed(store::take(s, anchor, &mut out)));
-    print(b"read 6 ", waits(store::read(s, anchor, slot(6))));
+    print(rt, b"read 5 ", waits(store::read(s, anchor, slot(5))))?;
+    print(rt, b"read 5 again ", waits(store::read(s, anchor, slot(5))))?;
+    print(rt, b"take ", listed(store::take(s, anchor, &mut out)))?;
+    print(rt, b"read 6 ", waits(store::read(s, anchor, slot(6))))
 }
 
 fn count(t: Tally, answer: Seen) -> Tally
@@ -174,12 +174,12 @@ fn count(t: Tally, answer: Seen) -> Tally
     }
 }
 
-fn print_tally(t: Tally) {
-    print(b"  no store ", t.broken as u64);
-    print(b"  same value ", t.same as u64);
-    print(b"  another value ", t.another as u64);
-    print(b"  none ", t.nothing as u64);
-    print(b"  other refusals ", t.refused as u64);
+fn print_tally(rt: &impl Print, t: Tally) -> io::Result<()> {
+    print(rt, b"  no store ", t.broken as u64)?;
+    print(rt, b"  same value ", t.same as u64)?;
+    print(rt, b"  another value ", t.another as u64)?;
+    print(rt, b"  none ", t.nothing as u64)?;
+    print(rt, b"  other refusals ", t.refused as u64)
 }
 
 fn no_looks() -> Tally
@@ -257,81 +257,98 @@ fn damaged(s: &mut [u8], way: u64, anchor: ReadAnchor) -> Tally
 }
 
 // The counts of all copies. The bytes are at the end what they were.
-fn damage(s: &mut [u8; STORE_SIZE], anchor: ReadAnchor) {
-    say(b"truncated copies\n");
-    print_tally(truncated(s, anchor));
-    say(b"copies with a byte one more\n");
-    print_tally(damaged(s, 0, anchor));
-    say(b"copies with a byte's top bit flipped\n");
-    print_tally(damaged(s, 1, anchor));
-    say(b"copies with a byte 0\n");
-    print_tally(damaged(s, 2, anchor));
-    say(b"copies with a byte 255\n");
-    print_tally(damaged(s, 3, anchor));
-    print(b"look 1 ", looked(store::look(s, anchor, slot(1))));
+fn damage(rt: &impl Print, s: &mut [u8; STORE_SIZE], anchor: ReadAnchor) -> io::Result<()> {
+    say(rt, b"truncated copies\n")?;
+    print_tally(rt, truncated(s, anchor))?;
+    say(rt, b"copies with a byte one more\n")?;
+    print_tally(rt, damaged(s, 0, anchor))?;
+    say(rt, b"copies with a byte's top bit flipped\n")?;
+    print_tally(rt, damaged(s, 1, anchor))?;
+    say(rt, b"copies with a byte 0\n")?;
+    print_tally(rt, damaged(s, 2, anchor))?;
+    say(rt, b"copies with a byte 255\n")?;
+    print_tally(rt, damaged(s, 3, anchor))?;
+    print(rt, b"look 1 ", looked(store::look(s, anchor, slot(1))))
 }
 
-fn main() {
+fn main(rt: HostRuntime) -> io::Result<()> {
     let mut s = [0u8; STORE_SIZE];
     let anchor = ReadAnchor::identified(10, word(5));
     print(
+        &rt,
         b"look before open ",
         looked(store::look(&s, anchor, slot(1))),
-    );
+    )?;
     print(
+        &rt,
         b"open 0 ",
         opened(store::open(&mut s, 0, 1, Retention::Unbounded)),
-    );
+    )?;
     print(
+        &rt,
         b"open 4097 ",
         opened(store::open(&mut s, 4097, 1, Retention::Unbounded)),
-    );
+    )?;
     print(
+        &rt,
         b"open depth 256 ",
         opened(store::open(&mut s, 4, 256, Retention::Unbounded)),
-    );
+    )?;
     print(
+        &rt,
         b"open 5 ",
         opened(store::open(&mut s, 5, 1, Retention::Unbounded)),
-    );
+    )?;
     print(
+        &rt,
         b"open 4 ",
         opened(store::open(&mut s, 4, 1, Retention::IdleBlocks(2))),
-    );
-    print(b"look ", looked(store::look(&s, anchor, slot(1))));
-    print(b"install ", installed(store::install(&mut s, anchor)));
-    print(b"install again ", installed(store::install(&mut s, anchor)));
+    )?;
+    print(&rt, b"look ", looked(store::look(&s, anchor, slot(1))))?;
+    print(&rt, b"install ", installed(store::install(&mut s, anchor)))?;
     print(
+        &rt,
+        b"install again ",
+        installed(store::install(&mut s, anchor)),
+    )?;
+    print(
+        &rt,
         b"put 1 ",
         stored(store::put(&mut s, anchor, slot(1), word(7))),
-    );
+    )?;
     print(
+        &rt,
         b"put 2 ",
         stored(store::put(&mut s, anchor, slot(2), word(8))),
-    );
+    )?;
     print(
+        &rt,
         b"put elsewhere ",
         stored(store::put(&mut s, ReadAnchor::at(9), slot(2), word(9))),
-    );
-    print(b"get 1 ", looked(store::get(&mut s, anchor, slot(1))));
-    print(b"get 3 ", looked(store::get(&mut s, anchor, slot(3))));
+    )?;
+    print(&rt, b"get 1 ", looked(store::get(&mut s, anchor, slot(1))))?;
+    print(&rt, b"get 3 ", looked(store::get(&mut s, anchor, slot(3))))?;
     print(
+        &rt,
         b"put 3 ",
         stored(store::put(&mut s, anchor, slot(3), word(3))),
-    );
+    )?;
     print(
+        &rt,
         b"put 4 ",
         stored(store::put(&mut s, anchor, slot(4), word(4))),
-    );
+    )?;
     print(
+        &rt,
         b"put 5 ",
         stored(store::put(&mut s, anchor, slot(5), word(5))),
-    );
+    )?;
     print(
+        &rt,
         b"put 4 again ",
         stored(store::put(&mut s, anchor, slot(4), word(6))),
-    );
-    print(b"look 4 ", looked(store::look(&s, anchor, slot(4))));
-    await_answers(&mut s, anchor);
-    damage(&mut s, anchor);
+    )?;
+    print(&rt, b"look 4 ", looked(store::look(&s, anchor, slot(4))))?;
+    await_answers(&rt, &mut s, anchor)?;
+    damage(&rt, &mut s, anchor)
 }
