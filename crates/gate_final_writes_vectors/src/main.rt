@@ -1,4 +1,6 @@
 // Runs final writes on recorded vectors and compares with what the Rust's `seed_from_accounts` answered. tools/finals_vectors.py has the vectors' form.
+#![tactic(auto)]
+
 ghost use Rattle.std.specs.Prelude.{◌+◌, ◌*◌, ◌≤◌, length, IfOk};
 
 use bal_plan::Cap;
