@@ -1,4 +1,6 @@
 // Prints the listing of a call list, on a store of 256 records that starts as zeros.
+#![tactic(auto)]
+
 ghost use Rattle.std.specs.Prelude.{◌≡◌, false, ◌/◌, ◌≤◌, length, take};
 ghost use Rattle.call_run.specs.Run.{too_short};
 ghost use Rattle.call_print.specs.Part.{PartAs};

@@ -1,4 +1,6 @@
 // The program `calls`: the first 65,536 bytes of standard input are a call list; its listing goes to standard output. docs/REFERENCE.md has the form of both.
+#![tactic(auto)]
+
 use std::io;
 use std::io::Read;
 

@@ -1,5 +1,7 @@
 // The lines of the listing, each written into an output of dots and compared with its bytes: words, one blank between fields, a newline, and the dots
 // around it.
+#![tactic(auto)]
+
 use listing::AdvanceCounts;
 use model::bal_prefetch::BalSkip;
 use model::delta_snapshot::Slot;

@@ -1,6 +1,8 @@
 // Prints the listings of four call lists that stand in standard input one after the other: one whose listing has several parts; one where what a put and
 // reads left in one part is looked up in the next; one with calls past the first 65,536 bytes; one whose 65,536th byte stands inside a call. `stdout`
 // has what the oracle printed for each; tools/gate_long_lists.py makes both.
+#![tactic(auto)]
+
 use std::io;
 use std::io::Read;
 

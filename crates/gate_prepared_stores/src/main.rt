@@ -1,5 +1,7 @@
 // What no call list reaches, on prepared stores: 25, a generation that has had 4,294,967,295 accepted reads; 27, a take's output that holds fewer
 // entries than the queue; the bytes that a refused call keeps; the output's bytes after a take; lists that end inside an entry; a member's flag byte.
+#![tactic(auto)]
+
 ghost use Rattle.std.specs.Prelude.{◌≡◌, length};
 ghost use Rattle.model.specs.Refusals.{store_size};
 

@@ -1,5 +1,7 @@
 // Replays the recorded lists (oracle/recorded). For each it prints the listing, and then what the oracle prints with `--detail`: the lines of each call, an advance's
 // applied writes, the read totals and the place of a fault. `stdout` has what the oracle printed; tools/gate_recorded_calls.py makes it and `data/lists`.
+#![tactic(auto)]
+
 ghost use Rattle.std.specs.Prelude.{◌≤◌, ◌<◌, length, IfOk};
 
 use call_reader::{CallRead, ListedCall};

@@ -1,6 +1,8 @@
 // Runs open, install, look, get, put, read and take on a store; then a look of slot 1 on each truncated copy of it, and on each copy that differs in one
 // byte: one more, the top bit flipped, 0, 255. It counts the copies by what the look answers: 20; the value that was put, all 32 bytes of it; another
 // value; none; another refusal.
+#![tactic(auto)]
+
 ghost use Rattle.std.specs.Prelude.{◌≡◌, ◌+◌, ◌≤◌, ◌<◌, length};
 ghost use Rattle.gate_store_damaged.specs.Tally.{total};
 
