@@ -1,4 +1,6 @@
 // The awaiting slots of a store in bytes, rising by slot: each has the slot's words, its waiters, and 1 if it is taken.
+#![tactic(auto)]
+
 ghost use Rattle.std.specs.Prelude.{◌≡◌, false, cond, ◌+◌, ◌-◌, ◌*◌, ◌≤◌, ◌<◌, ◌∷◌, ◌++◌, [], eqb, length, take, drop, get_or, replicate};
 ghost use Rattle.layout.specs.Layout.{awaiting_size};
 ghost use Rattle.model.specs.Slots.{slot_words, slot_eqb, mem};

@@ -1,4 +1,6 @@
 // The accounts of a block access list under a plan (`seed_from_accounts` of bal_prefetch.rs): their entries found, those within the caps put into the outputs.
+#![tactic(auto)]
+
 ghost use Rattle.std.specs.Prelude.{◌≡◌, true, false, List, ℕ, ◌*◌, ◌/◌, ◌<◌, ◌≤◌, length, drop};
 ghost use Rattle.model.specs.Entries.{address_of};
 ghost use Rattle.bal_plan.specs.Plan.{BalPlan, admits_from, plan_of, limit_of};

@@ -1,4 +1,6 @@
 // What one account gives to a seed: its changed slots with their final values, and its reads, put into outputs under a cap.
+#![tactic(auto)]
+
 ghost use Rattle.std.specs.Prelude.{◌+◌, ◌*◌, ◌/◌, ◌≤◌, length};
 ghost use Rattle.bal_entries.specs.Walking.{SlotsRoom, SlotsSeeded, ReadsSeeded};
 

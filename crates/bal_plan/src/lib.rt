@@ -1,4 +1,6 @@
 // The plan of final writes (`BalPlan` of bal_prefetch.rs): which accounts it admits, and its caps.
+#![tactic(auto)]
+
 ghost use Rattle.std.specs.Prelude.{◌≡◌};
 ghost use Rattle.bal_plan.specs.Plan.{admits_from, addresses_in, limit_of};
 

@@ -1,4 +1,6 @@
 // The reader of calls: each call of a call list, by its code.
+#![tactic(auto)]
+
 ghost use Rattle.std.specs.Prelude.{◌≡◌, true, ◌+◌, ◌≤◌, ◌<◌, length, drop};
 ghost use Rattle.call_list.specs.CallList.{parse_retention, parse_limits, parse_open, parse_install, parse_prepared, parse_advance, parse_put, parse_round, parse_answer, parse_with_slot, parse_anchored, parse_call};
 ghost use Rattle.reader.specs.Answers.{Reading};

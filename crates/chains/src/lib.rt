@@ -1,4 +1,6 @@
 // A table that finds the last record of a slot below a record: chains of records by bucket.
+#![tactic(auto)]
+
 ghost use Rattle.std.specs.Prelude.{◌≡◌, List, ℕ, ◌+◌, ◌*◌, ◌≤◌, ◌<◌, length};
 ghost use Rattle.layout.specs.Layout.{record_size};
 ghost use Rattle.model.specs.Slots.{slot_eqb};

@@ -1,4 +1,6 @@
 // Are these bytes a store? The checks in their order.
+#![tactic(auto)]
+
 ghost use Rattle.std.specs.Prelude.{◌≡◌, true, ◌&&◌, cond, eqb};
 ghost use Rattle.model.specs.Contents.{is_some};
 ghost use Rattle.image.specs.Image.{decode};

@@ -1,4 +1,6 @@
 // Are these bytes a store? The checks of its parts, one function each.
+#![tactic(auto)]
+
 ghost use Rattle.std.specs.Prelude.{◌≡◌, true, ◌&&◌, eqb, leb, [], ◌∷◌, ℕ, suc, ◌+◌, ◌*◌, ◌≤◌, ◌<◌, length, take, drop, get_or};
 ghost use Rattle.layout.specs.Layout.{awaiting_offset, awaiting_size, awaiting_table, awaiting_width, ends_limit, ends_offset, ends_size, header_width, record_size, record_width, records_offset, slot_size};
 ghost use Rattle.model.specs.Numbers.{Bytes};

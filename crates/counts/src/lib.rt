@@ -1,4 +1,6 @@
 // Held and live of a store's records, by one walk over their index.
+#![tactic(auto)]
+
 ghost use Rattle.std.specs.Prelude.{◌≡◌, not, ◌&&◌, ◌*◌, ◌≤◌, ltb, length};
 ghost use Rattle.layout.specs.Layout.{record_size};
 ghost use Rattle.image.specs.Area.{records_of};

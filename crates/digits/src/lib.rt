@@ -1,4 +1,6 @@
 // Numbers, slots and bytes of a listing, written into a lent output at a place. Each function that writes returns the next place.
+#![tactic(auto)]
+
 ghost use Rattle.std.specs.Prelude.{◌≡◌, [], ◌∷◌, ◌+◌, ◌≤◌, ◌<◌, length, drop};
 ghost use Rattle.call_list.specs.Listing.{digit, decimal, hex, u256_hex, slot_hex};
 ghost use Rattle.digits.specs.Written.{Written};

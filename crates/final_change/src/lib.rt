@@ -1,4 +1,6 @@
 // The final change of a slot: of the changes that a block access list has for it, the last listed.
+#![tactic(auto)]
+
 ghost use Rattle.std.specs.Prelude.{◌≡◌, ◌+◌, ◌/◌, ◌≤◌, length, take, drop};
 ghost use Rattle.final_change.specs.Changes.{changes_in, final_change, value_in};
 ghost use Rattle.final_change.specs.Eip7928.{FinalIsHighest};

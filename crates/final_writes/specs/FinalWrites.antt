@@ -4,7 +4,7 @@ use Rattle.std.proofs.Math.Option.{Option, some, none}
 use Rattle.model.specs.declared.storage_memo.U256.{U256}
 use Rattle.model.specs.declared.delta_snapshot.Slot.{Slot}
 use Rattle.model.specs.Advance.{Write}
-use Rattle.model.specs.Refusals.{Condition, condition, first_that_holds}
+use Rattle.model.specs.Refusals.{condition, first_that_holds}
 use Rattle.final_change.specs.Changes.{StorageChange}
 use Rattle.bal_plan.specs.Plan.{BalPlan, within_cap}
 use Rattle.bal_entries.specs.Listed.{LentSlot, sum, group_slots}

@@ -1,4 +1,6 @@
 // Final writes (bal_prefetch.rs): what a block access list, lent as flat lists, gives under a plan. docs/REFERENCE.md describes it.
+#![tactic(auto)]
+
 ghost use Rattle.std.specs.Prelude.{◌≡◌, not, ◌+◌, ◌^◌, ◌<◌, ◌≤◌, min, eqb};
 ghost use Rattle.model.specs.Entries.{number_at};
 ghost use Rattle.entries.specs.Lists.{all_entries};

@@ -1,4 +1,6 @@
 // The fold of a base's layers into one, by one walk over the index of its records.
+#![tactic(auto)]
+
 ghost use Rattle.std.specs.Prelude.{◌≡◌, cond, ◌+◌, ◌*◌, ◌≤◌, ◌<◌, length, get_or};
 ghost use Rattle.layout.specs.Layout.{record_size};
 ghost use Rattle.words.specs.Parts.{placed};

@@ -1,4 +1,6 @@
 // The header's first words: what an open sets, the installed mark and the anchor.
+#![tactic(auto)]
+
 ghost use Rattle.std.specs.Prelude.{◌≡◌, ◌∷◌, [], ◌+◌, ◌-◌, ◌*◌, ◌≤◌, max, length};
 ghost use Rattle.layout.specs.Layout.{depth_offset, installed_offset, magic};
 ghost use Rattle.model.specs.Slots.{u256_words, words_eqb, anchor_eqb};

@@ -1,18 +1,17 @@
 -- Demand 3 on lent bytes: from the calls on states, which the calls on bytes are.
 use Prim.Native.Nat.{ℕ}
 use mathlib.Core.Path.{◌≡◌, refl, sym, ap, ◌∙◌, subst}
-use mathlib.Core.Bool.{true}
 use mathlib.Core.List.{List, [], ◌∷◌, map}
-use mathlib.Core.Option.{Option, some, none}
+use mathlib.Core.Option.{some}
 use lib.ListN.{length}
-use Rattle.model.specs.Store.{Config, Call, Memory}
-use Rattle.model.specs.Refusals.{LentCall, Answer, trace, final}
+use Rattle.model.specs.Store.{Call, Memory}
+use Rattle.model.specs.Refusals.{Answer, trace, final}
 use Rattle.model.specs.Demand3.{calls_of}
 use Rattle.model.proofs.Simulation.{both_empty}
 use Rattle.model.proofs.Run.{both_open, RunAgrees, run_agrees, serves_same, true_memory}
 use Rattle.image.specs.Image.{decode, BytesCall, lent_call, bytes_trace, bytes_final}
-use Rattle.image.specs.Claims.{Closure, OnBytes, calls_fit}
-use Rattle.image.specs.Demand3OnBytes.{fresh_store, fresh_ledger, bytes_calls, Demand3OnBytes, DemandOnBytes}
+use Rattle.image.specs.Claims.{Closure, OnBytes}
+use Rattle.image.specs.Demand3OnBytes.{fresh_store, fresh_ledger, bytes_calls, DemandOnBytes}
 use Rattle.image.proofs.OnBytes.{on_bytes}
 
 -- What is lent does not change the calls.

@@ -2,7 +2,6 @@
 use Rattle.std.specs.Prelude.{ℕ, ◌≡◌, Bool, true, List, map}
 use Rattle.std.proofs.Math.Option.{Option, some, none}
 use Rattle.model.specs.declared.delta_snapshot.Slot.{Slot}
-use Rattle.model.specs.declared.delta_snapshot.Retention.{Retention}
 use Rattle.model.specs.Store.{Config, Store, Call}
 use Rattle.model.specs.Refusals.{refused}
 use Rattle.model.specs.FlatLedger.{Ledger, compared, ledger_trace, ledger_final, ledger_serves}

@@ -1,5 +1,5 @@
 -- The image of a store in bytes (docs/LAYOUT.md), and which bytes are a store.
-use Rattle.std.specs.Prelude.{ℕ, zero, suc, pred, ◌+◌, ◌-◌, ◌*◌, Bool, true, false, not, ◌&&◌, cond, List, [], ◌∷◌, ◌++◌, map, eqb, leb, length, take, drop, get_or, replicate}
+use Rattle.std.specs.Prelude.{ℕ, zero, suc, pred, ◌-◌, ◌*◌, Bool, true, false, not, ◌&&◌, cond, List, [], ◌∷◌, ◌++◌, map, eqb, leb, length, take, drop, get_or, replicate}
 use Rattle.std.proofs.Math.Option.{Option, some, none}
 use Rattle.layout.specs.Layout.{awaiting_count_index, awaiting_index, awaiting_table, awaiting_width, capacity_index, capacity_offset, depth_index, ends_index, ends_limit, generation_width, hash_index, installed_index, magic, max_depth_index, number_index, record_width, records_count_index, records_index, retention_index, slot_width, taken_index, totals_index, waiters_index}
 use Rattle.model.specs.declared.delta_snapshot.Slot.{Slot}

@@ -1,4 +1,6 @@
 // The layers of a store's generation: its header, and a slot's last use and value searched from a layer down.
+#![tactic(auto)]
+
 ghost use Rattle.std.specs.Prelude.{◌≡◌, true, ◌+◌, ◌*◌, ◌≤◌, ◌<◌, length, drop};
 ghost use Rattle.layout.specs.Layout.{record_size, records_offset};
 ghost use Rattle.model.specs.declared.delta_snapshot.Slot.{Slot};

@@ -1,4 +1,6 @@
 // The members of a call list's answer as a lent answer has them.
+#![tactic(auto)]
+
 ghost use Rattle.std.specs.Prelude.{◌≡◌, ◌+◌, ◌*◌, ◌/◌, ◌≤◌, length, take, drop};
 ghost use Rattle.model.specs.Entries.{members_of};
 ghost use Rattle.reader.specs.Answers.{member_size, members_at};

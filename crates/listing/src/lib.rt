@@ -1,4 +1,6 @@
 // The lines of a listing, written into a lent output at a place. Each function returns the next place.
+#![tactic(auto)]
+
 ghost use Rattle.std.specs.Prelude.{◌≡◌, [], ◌∷◌, ◌+◌, ◌≤◌, length};
 ghost use Rattle.model.specs.Advance.{lineage_number, skip_number};
 ghost use Rattle.model.specs.Store.{opened, anchor_same, anchor_fresh, value, no_value, stored, waiting, answered};

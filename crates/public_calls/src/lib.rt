@@ -1,5 +1,7 @@
 // The public calls joined to demand 3. Each function but `demand_3` calls the public function of its name:
 // on every argument and every content of the bytes that is a call as the theorem takes it.
+#![tactic(auto)]
+
 ghost use Rattle.replies.specs.Replies.{open_reply, install_reply, look_reply, put_reply, advance_reply, read_reply, take_reply, answer_reply};
 ghost use Rattle.public_calls.specs.PublicCalls as calls;
 ghost use Rattle.public_calls.specs.PublicCalls.{Made};

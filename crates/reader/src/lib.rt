@@ -1,4 +1,6 @@
 // The reader of the parts of a call list: a cursor by value, and an answer for each kind of part.
+#![tactic(auto)]
+
 ghost use Rattle.std.specs.Prelude.{◌≡◌, ◌&&◌, ◌+◌, ◌≤◌, ◌<◌, eqb, ltb, length, drop};
 ghost use Rattle.words.specs.Parts.{part};
 ghost use Rattle.call_list.specs.CallList.{number_from, parse_number, parse_form, parse_u256, parse_slot, parse_hash, parse_anchor};

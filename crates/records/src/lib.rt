@@ -1,4 +1,6 @@
 // Records in a slice: a slot and its content. They rise by slot.
+#![tactic(auto)]
+
 ghost use Rattle.std.specs.Prelude.{◌≡◌, true, cond, ◌+◌, ◌-◌, ◌*◌, ◌≤◌, ◌<◌, ◌^◌, ◌∷◌, [], ◌++◌, ltb, length, take, drop};
 ghost use Rattle.layout.specs.Layout.{content_size, record_size, slot_size, slot_width, value_index};
 ghost use Rattle.model.specs.Numbers.{num};

@@ -1,4 +1,6 @@
 // The replies of the public calls. Each is a refusal's number, or what the call did.
+#![tactic(auto)]
+
 use model::delta_snapshot::CompactionReport;
 use model::read_hub::CarryOutcome;
 use model::storage_memo::U256;

@@ -1,4 +1,6 @@
 // The rules across layers of a store's records, in one pass by a table, or walked by their index.
+#![tactic(auto)]
+
 ghost use Rattle.std.specs.Prelude.{◌≡◌, ◌*◌, ◌≤◌, ◌<◌, length};
 ghost use Rattle.layout.specs.Layout.{record_size};
 ghost use Rattle.image.specs.Area.{records_of};

@@ -1,4 +1,6 @@
 // The link of an advance, and the store after its seal, built in the work area.
+#![tactic(auto)]
+
 ghost use Rattle.std.specs.Prelude.{◌≡◌, cond, ◌++◌, [], ◌+◌, ◌*◌, ◌≤◌, ◌<◌, eqb, length, drop};
 ghost use Rattle.layout.specs.Layout.{ends_limit, records_offset};
 ghost use Rattle.model.specs.Layers.{record_count};

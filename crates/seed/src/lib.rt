@@ -1,4 +1,6 @@
 // The writes of an advance, applied to the top of a store.
+#![tactic(auto)]
+
 ghost use Rattle.std.specs.Prelude.{◌≡◌, true, cond, ◌+◌, ◌*◌, ◌/◌, ◌^◌, ◌≤◌, ◌<◌, length, drop};
 ghost use Rattle.std.proofs.Math.Option.{some, none};
 ghost use Rattle.model.specs.Contents.{valued_use};

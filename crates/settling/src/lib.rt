@@ -1,4 +1,6 @@
 // The values of an answer's members put to the top of a store.
+#![tactic(auto)]
+
 ghost use Rattle.std.specs.Prelude.{◌≡◌, ◌+◌, ◌≤◌, ◌∷◌, eqb, cond, length, drop, get_or};
 ghost use Rattle.model.specs.Layers.{record_count};
 ghost use Rattle.model.specs.Reads as reads;

@@ -1,4 +1,6 @@
 // The store's calls on any lent bytes: each is refused, or done as its definition says. docs/REFERENCE.md describes each.
+#![tactic(auto)]
+
 ghost use Rattle.model.specs.Store as calls;
 ghost use Rattle.model.specs.Store.{on_store, at_anchor, on_slot, open_store};
 ghost use Rattle.model.specs.Entries.{slots_of};

@@ -1,4 +1,6 @@
 // The top's records: room for a record, and a record set.
+#![tactic(auto)]
+
 ghost use Rattle.std.specs.Prelude.{◌≡◌, leb};
 ghost use Rattle.model.specs.Layers.{record_count, insert, settle};
 ghost use Rattle.model.specs.Store.{chain, touched_top};

@@ -1,5 +1,5 @@
 -- The totals of a store's generation, in the bytes of its image.
-use Prim.Native.Nat.{ℕ, pred, ◌+◌, ◌*◌}
+use Prim.Native.Nat.{ℕ, pred, ◌*◌}
 use mathlib.Core.Path.{◌≡◌, refl, sym, ap, ◌∙◌}
 use mathlib.Core.List.{List, [], ◌∷◌, ◌++◌, append_assoc}
 use mathlib.Core.Option.{some}

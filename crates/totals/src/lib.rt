@@ -1,4 +1,6 @@
 // The running totals of a generation's reads: counted by value, lent to a read and to an answer, and kept in a store's bytes.
+#![tactic(auto)]
+
 ghost use Rattle.std.specs.Prelude.{◌≡◌, ◌≤◌, length};
 ghost use Rattle.layout.specs.Layout.{ends_offset};
 ghost use Rattle.model.specs.Reads.{count_served, count_waiting, count_answer};

@@ -1,4 +1,6 @@
 // An advance of a store known to be right.
+#![tactic(auto)]
+
 ghost use Rattle.std.specs.Prelude.{◌≡◌, List, ℕ, suc, ◌+◌, ◌*◌, ◌/◌, ◌≤◌, length, take, true};
 ghost use Rattle.model.specs.Contents.{is_some};
 ghost use Rattle.model.specs.Layers.{find};

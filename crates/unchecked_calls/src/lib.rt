@@ -1,4 +1,6 @@
 // The calls open, install, look, get and put on bytes that are known to be a store.
+#![tactic(auto)]
+
 ghost use Rattle.std.specs.Prelude.{◌≡◌, true, ◌≤◌, ◌<◌, length};
 ghost use Rattle.model.specs.Contents.{is_some};
 ghost use Rattle.model.specs.Refusals.{store_size};

@@ -15,7 +15,6 @@ use Rattle.model.specs.declared.storage_memo.BlockHash.TheVariants.{Unknown, Kno
 use Rattle.model.specs.Slots.{Value, u256_words, u256_eqb, hash_eqb, anchor_eqb}
 use Rattle.model.proofs.SlotLaws.{and_intro, words_eqb_refl, anchor_eqb_true}
 use Rattle.model.specs.Layers.{Layer, record_count}
-use Rattle.model.specs.Contents.{is_some}
 use Rattle.model.specs.Reads.{Member, is_awaiting, waiters_of, join, queued, take_queued, remove_all_pending, woken, all_taken, has_duplicate, member_slots, valued_slots, refused_slots, settle_members, count_served, count_waiting, count_answer}
 use Rattle.model.specs.Entries.{first_slots, with_slots}
 use Rattle.model.proofs.EntryLaws.{SlotFits, Each, slots_back}

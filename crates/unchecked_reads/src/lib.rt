@@ -1,4 +1,6 @@
 // The calls read, take, answer and answer_failed on bytes that are known to be a store.
+#![tactic(auto)]
+
 ghost use Rattle.std.specs.Prelude.{◌≡◌, true, false, not, ◌&&◌, leb, ◌∷◌, ◌+◌, ◌*◌, ◌≤◌, length};
 ghost use Rattle.std.proofs.Math.Option.{some, none};
 ghost use Rattle.model.specs.Contents.{is_some};

@@ -2,7 +2,6 @@
 use borrow.Author.Rules.{rules}
 use native.Mathlib.Omega.{arith}
 use mathlib.Core.Path.{refl, sym, ◌∙◌}
-use Prim.Native.Nat.{◌-◌}
 use Rattle.awaiting.proofs.Entries.{mark_start, mark_step, mark_end}
 use Rattle.awaiting.proofs.mark_taken.Goals as goal
 

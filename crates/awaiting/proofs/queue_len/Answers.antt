@@ -3,12 +3,11 @@ use mathlib.Core.Bool.{cond}
 use borrow.Author.Rules.{rules}
 use native.Mathlib.Omega.{arith}
 use mathlib.Core.Path.{◌≡◌, sym, ap, ◌∙◌}
-use Prim.Native.Nat.{◌+◌, ◌-◌}
+use Prim.Native.Nat.{◌+◌}
 use lib.ListN.{length, drop}
 use Rattle.model.specs.Reads.{queued}
 use Rattle.image.specs.Area.{pending_of}
 use mathlib.Core.Logic.{⊎_elim}
-use borrow.Author.Tests.{not-true, not-false}
 use Rattle.awaiting.specs.Awaiting.{entry_at}
 use Rattle.awaiting.proofs.Entries.{queued_first, queued_end, list_count, cond_true, cond_false}
 use Rattle.awaiting.proofs.queue_len.Goals as goal

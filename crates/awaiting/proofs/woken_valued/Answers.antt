@@ -3,7 +3,7 @@ use Rattle.awaiting.proofs.Stored.{rising_of}
 use borrow.Author.Rules.{rules}
 use native.Mathlib.Omega.{arith}
 use mathlib.Core.Path.{◌≡◌}
-use Prim.Native.Nat.{◌+◌, ◌-◌}
+use Prim.Native.Nat.{◌+◌}
 use lib.ListN.{drop}
 use Rattle.model.specs.Reads.{woken, valued_slots}
 use Rattle.image.specs.Area.{pending_of}

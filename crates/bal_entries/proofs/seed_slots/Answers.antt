@@ -1,6 +1,6 @@
 -- `bal_entries::seed_slots` meets its contract. Assumes nothing.
 use mathlib.Core.Path.{subst, ◌≡◌, refl, ◌∙◌}
-use Prim.Native.Nat.{ℕ, ◌-◌}
+use Prim.Native.Nat.{ℕ}
 use native.Mathlib.Omega.{arith}
 use borrow.Author.Rules.{rules}
 use Rattle.bal_entries.specs.Walking.{SlotsSeeded}

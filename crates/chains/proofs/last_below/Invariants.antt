@@ -1,5 +1,4 @@
 -- The loop of `chains::last_below`: what it keeps, and its measure.
-use Prim.Native.Nat.{◌-◌}
 use Rattle.chains.proofs.ChainLaws.{Walking}
 use Rattle.chains.proofs.last_below.Given as goal
 

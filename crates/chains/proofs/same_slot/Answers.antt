@@ -1,5 +1,4 @@
 -- `chains::same_slot` meets its contract.
-use Prim.Native.Nat.{◌-◌}
 use native.Mathlib.Omega.{arith}
 use borrow.Author.Rules.{rules}
 use Rattle.chains.proofs.SlotAt.{other_slot, agree_more, one_slot}

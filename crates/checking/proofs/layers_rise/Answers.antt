@@ -2,8 +2,8 @@
 use borrow.Author.Rules.{rules}
 use native.Mathlib.Omega.{arith}
 use mathlib.Core.Path.{◌≡◌, refl, sym, ap, ◌∙◌}
-use Prim.Native.Nat.{suc, ◌+◌, ◌-◌}
-use mathlib.Core.Bool.{Bool, true, ◌&&◌}
+use Prim.Native.Nat.{suc, ◌+◌}
+use mathlib.Core.Bool.{Bool, ◌&&◌}
 use lib.ListN.{take, drop}
 use Rattle.layout.specs.Layout.{ends_limit, record_width}
 use Rattle.image.specs.Image.{words_of}

@@ -1,7 +1,7 @@
 -- `checking::waiters` meets its contract.
 use borrow.Author.Rules.{rules}
 use native.Mathlib.Omega.{arith}
-use Prim.Native.Nat.{◌-◌, ◌≤◌}
+use Prim.Native.Nat.{◌≤◌}
 use lib.Dec.{lit<}
 use Rattle.layout.specs.Layout.{awaiting_width}
 use Rattle.checking.proofs.Steps.{waiters_next, waiters_end, waiters_few}

@@ -1,7 +1,7 @@
 -- `checking::zero` meets its contract.
 use borrow.Author.Rules.{rules}
 use mathlib.Core.Path.{refl, sym, ap, ◌∙◌}
-use Prim.Native.Nat.{◌+◌, ◌-◌}
+use Prim.Native.Nat.{◌+◌}
 use mathlib.Core.Bool.{Bool, ◌&&◌}
 use lib.ListN.{take, drop, get_or}
 use lib.Dec.{eqb}

@@ -5,7 +5,7 @@ use mathlib.Core.Path.{ap, ◌∙◌}
 use mathlib.Core.List.{List}
 use native.Mathlib.Omega.{arith}
 use lib.ListN.{length, length-set, drop_of_length-le}
-use Rattle.call_list.specs.Listing.{digit, decimal_from}
+use Rattle.call_list.specs.Listing.{decimal_from}
 use Rattle.digits.proofs.Digits.{decimal_step, decimal_end, tenth_fits, two_digits}
 use Rattle.digits.proofs.fill_decimal.Goals as goal
 

@@ -1,5 +1,5 @@
 -- The loop of `digits::fill_decimal`: what it keeps, and its measure.
-use Prim.Native.Nat.{◌≤◌, ◌<◌, ◌-◌, ◌^◌}
+use Prim.Native.Nat.{◌≤◌, ◌<◌, ◌^◌}
 use mathlib.Core.Path.{◌≡◌}
 use lib.ListN.{length, drop}
 use Rattle.call_list.specs.Listing.{decimal, decimal_from}

@@ -5,7 +5,7 @@ use mathlib.Core.Path.{◌≡◌, refl, sym, ap, ◌∙◌}
 use native.Mathlib.Omega.{arith}
 use lib.ListN.{length-set}
 use Rattle.words.specs.Parts.{placed}
-use Rattle.call_list.specs.Listing.{digit, hex}
+use Rattle.call_list.specs.Listing.{hex}
 use Rattle.entries.proofs.Placing.{placed_nil}
 use Rattle.digits.proofs.Digits.{hex_length, hex_step}
 use Rattle.digits.proofs.write_hex.Goals as goal

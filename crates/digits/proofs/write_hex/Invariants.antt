@@ -1,5 +1,5 @@
 -- The loop of `digits::write_hex`: what it keeps, and its measure.
-use Prim.Native.Nat.{◌≤◌, ◌-◌}
+use Prim.Native.Nat.{◌≤◌}
 use mathlib.Core.Path.{◌≡◌}
 use lib.ListN.{length}
 use Rattle.words.specs.Parts.{placed}

@@ -1,5 +1,5 @@
 -- The loop of `reader::pass_members`: what it keeps, and its measure.
-use Prim.Native.Nat.{◌≤◌, ◌-◌}
+use Prim.Native.Nat.{◌≤◌}
 use mathlib.Core.Path.{◌≡◌}
 use lib.ListN.{length, drop}
 use Rattle.reader.specs.Answers.{past_members}

@@ -1,6 +1,5 @@
 -- `rules::by_table` meets its contract.
 use borrow.Author.Rules.{rules}
-use Prim.Native.Nat.{◌-◌}
 use native.Mathlib.Omega.{arith}
 use Rattle.image.specs.Area.{records_of}
 use Rattle.order.proofs.RecordLaws.{length_records_of}

@@ -1,5 +1,4 @@
 -- The loop of `rules::by_table`: what it keeps, and its measure.
-use borrow.Author.Rules.{rules}
 use mathlib.Core.Path.{◌≡◌}
 use Prim.Native.Nat.{◌-◌, ◌≤◌}
 use Rattle.model.specs.declared.delta_snapshot.Retention.{Retention}

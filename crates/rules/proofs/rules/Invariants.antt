@@ -1,5 +1,4 @@
 -- The loop of `rules::rules`: what it keeps, and its measure.
-use borrow.Author.Rules.{rules}
 use mathlib.Core.Path.{◌≡◌}
 use Prim.Native.Nat.{◌+◌, ◌≤◌, ◌-◌}
 use lib.ListN.{length, drop}

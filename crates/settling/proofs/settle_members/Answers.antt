@@ -1,5 +1,4 @@
 -- `settling::settle_members` meets its contract. Assumes nothing.
-use Prim.Native.Nat.{◌-◌}
 use mathlib.Core.Path.{refl}
 use native.Mathlib.Omega.{arith}
 use Rattle.header.proofs.Segments.{known_bytes}
