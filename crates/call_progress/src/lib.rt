@@ -1,4 +1,6 @@
 // Where a run of a call list is, from call to call.
+#![tactic(auto)]
+
 ghost use Rattle.std.specs.Prelude.{◌≡◌, ◌≤◌, length};
 ghost use Rattle.call_progress.specs.Progress.{store_after, called_at, broken_at, goes_on};
 

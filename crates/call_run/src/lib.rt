@@ -1,4 +1,6 @@
 // The run of a call list: its calls one after the other, and their lines. docs/REFERENCE.md describes it.
+#![tactic(auto)]
+
 ghost use Rattle.std.specs.Prelude.{◌≡◌, false, ◌+◌, ◌*◌, ◌/◌, ◌≤◌, ◌<◌, length};
 ghost use Rattle.call_progress.specs.Progress.{call_lines};
 ghost use Rattle.call_run.specs.Run.{LinesFit, too_short, RanAs};

@@ -2,7 +2,7 @@
 use Prim.Native.Nat.{ℕ}
 use mathlib.Core.Path.{◌≡◌, refl, ap, ◌∙◌}
 use mathlib.Core.Bool.{Bool, true, false, cond}
-use mathlib.Core.List.{List, [], ◌∷◌}
+use mathlib.Core.List.{List}
 use mathlib.Core.Option.{Option, some, none}
 use lib.ListN.{length, drop}
 use Rattle.model.specs.declared.storage_memo.ReadAnchor.{ReadAnchor}
@@ -13,7 +13,7 @@ use Rattle.model.specs.Store.{Memory, Call, open_store, on_store, at_anchor, ans
 use Rattle.model.specs.Refusals.{refuse, refusal, conclude, step}
 use Rattle.model.proofs.EntryLaws.{bytes_drop}
 use Rattle.image.specs.Claims.{call_fits}
-use Rattle.image.specs.Image.{decode, BytesCall, BytesResult, lent_call, bytes_step, bytes_final}
+use Rattle.image.specs.Image.{decode, BytesCall, lent_call, bytes_step, bytes_final}
 use Rattle.image.proofs.EntriesFit.{members_of_fit}
 use Rattle.image.proofs.OnBytes.{step_holds}
 use Rattle.image.proofs.Closure.{closure}

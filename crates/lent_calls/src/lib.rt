@@ -1,4 +1,6 @@
 // A call's arguments from lent bytes, and its reply as a number and as words in a lent output: what the exported functions (crate poxilme) take and give.
+#![tactic(auto)]
+
 ghost use Rattle.std.specs.Prelude.{◌≡◌, true, List, ◌∷◌, ◌++◌, [], ℕ, ◌+◌, ◌*◌, ◌≤◌, length};
 ghost use Rattle.std.proofs.Math.Option.{none};
 ghost use Rattle.layout.specs.Layout.{record_size, records_offset};

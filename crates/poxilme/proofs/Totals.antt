@@ -1,7 +1,7 @@
 -- The read totals of a store's bytes: those of its generation, or 21 where there is none. Assumes nothing.
 use Prim.Native.Nat.{ℕ, ◌≤◌}
 use mathlib.Core.Path.{◌≡◌, refl, sym, ap, ◌∙◌}
-use mathlib.Core.Bool.{Bool, true, false, not}
+use mathlib.Core.Bool.{Bool, true, false}
 use mathlib.Core.List.{List}
 use mathlib.Core.Option.{Option, some, none}
 use native.Mathlib.Omega.{arith}
@@ -11,11 +11,11 @@ use Rattle.model.specs.declared.read_hub.ReadTotals.{ReadTotals}
 use Rattle.model.specs.Contents.{is_some}
 use Rattle.model.specs.Store.{Generation, Memory}
 use Rattle.image.specs.Image.{decode, read_generation, totals_words}
-use Rattle.image.specs.Lent.{words_in, store_of, generation_of, IsStore, Installed}
+use Rattle.image.specs.Lent.{words_in, store_of, generation_of, IsStore}
 use Rattle.image.proofs.Lent.{installs_some, store_in}
 use Rattle.totals.specs.Totals.{totals_of}
 use Rattle.totals.proofs.Places.{totals_of_words}
-use Rattle.lent_calls.specs.ReplyWords.{Given, refused_by, accepted, installed_totals, totals_given}
+use Rattle.lent_calls.specs.ReplyWords.{refused_by, accepted, installed_totals, totals_given}
 
 -- The bytes of a store hold all totals.
 pub totals_long : (b : List ℕ) → IsStore b → ends_offset ≤ length b

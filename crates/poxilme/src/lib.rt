@@ -1,5 +1,7 @@
 // The static library for C and Rust: every public call of the store on numbers and lent bytes. docs/REFERENCE.md describes each.
 // A call gives 0, or its refusal's number; the words of an accepted call's reply stand in `reply`. Arguments that are too short are refused by 9, before every other refusal.
+#![tactic(auto)]
+
 ghost use Rattle.std.specs.Prelude.{◌≡◌, true, ◌≤◌, ◌/◌, length};
 ghost use Rattle.model.specs.Contents.{is_some};
 ghost use Rattle.model.specs.Store as calls;

@@ -1,6 +1,6 @@
 -- The definitions at their limits and one past them, where a call list reaches no such state or is too long for computation.
 use Rattle.std.specs.Prelude.{ℕ, zero, suc, ◌-◌, ◌≤◌, ◌≡◌, false, List, [], ◌∷◌, ◌++◌, map, length, replicate}
-use Rattle.std.proofs.Math.Option.{Option, some, none}
+use Rattle.std.proofs.Math.Option.{some, none}
 use Rattle.model.specs.declared.storage_memo.U256.{U256}
 use Rattle.model.specs.declared.delta_snapshot.Slot.{Slot}
 use Rattle.model.specs.declared.delta_snapshot.Retention.TheVariants.{Unbounded}
@@ -8,7 +8,7 @@ use Rattle.model.specs.Slots.{at}
 use Rattle.model.specs.Advance.{void_base}
 use Rattle.model.specs.Reads.{Pending}
 use Rattle.model.specs.Store.{read, AnchoredCall, on_slot, take, advance, at_anchor, Call, on_store, Memory, listed}
-use Rattle.model.specs.Refusals.{Lent, Condition, work_size, conditions, refusal, refuse, ok}
+use Rattle.model.specs.Refusals.{Lent, work_size, conditions, refusal, refuse, ok}
 use Rattle.image.specs.Output.{output_after}
 use Rattle.call_list.specs.Meaning.{default_limits}
 use Rattle.call_list.specs.CallList.{call_list}

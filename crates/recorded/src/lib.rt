@@ -1,4 +1,6 @@
 // The definitions' run of recorded call lists, and the definitions at their limits.
+#![tactic(auto)]
+
 ghost use Rattle.recorded.specs.Agree.{RecordedAgree};
 ghost use Rattle.recorded.specs.Limits.{AtLimits};
 

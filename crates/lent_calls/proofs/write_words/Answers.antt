@@ -1,5 +1,5 @@
 -- `lent_calls::write_words` meets its contract: the first i words stand at the beginning. Assumes nothing.
-use Prim.Native.Nat.{ℕ, ◌+◌, ◌*◌, ◌-◌}
+use Prim.Native.Nat.{ℕ, ◌+◌, ◌*◌}
 use mathlib.Core.Path.{◌≡◌, refl, sym, ap, ◌∙◌}
 use mathlib.Core.List.{List, ◌∷◌, [], ◌++◌}
 use native.Mathlib.Omega.{arith}
