@@ -1,14 +1,14 @@
 // Prints the listing of a call list, on a store of 256 records that starts as zeros.
 #![tactic(auto)]
 
-ghost use Rattle.std.specs.Prelude.{◌≡◌, false, ◌/◌, ◌≤◌, length, take};
+ghost use Rattle.std.specs.Prelude.{◌≡◌, false, ◌/◌, ◌≤◌, length, take, IfOk};
 ghost use Rattle.call_run.specs.Run.{too_short};
 ghost use Rattle.call_print.specs.Part.{PartAs};
 
 use call_run::RunReply;
 use reader::Cursor;
 use std::io;
-use std::io::Write;
+use std::io::{Read, Write};
 
 // The bytes of a store of 256 records.
 const STORE_SIZE: usize = layout::RECORDS_OFFSET + 256 * layout::RECORD_SIZE;
@@ -104,4 +104,19 @@ fn taken(list: &[u8]) -> usize
 pub fn print_listing<W: Write>(to: &mut W, list: &[u8]) -> io::Result<()> {
     let n = taken(list);
     print_parts(to, &list[0..n])
+}
+
+// Reads until the buffer is full or the input ends; how many bytes it got.
+pub fn read_full<R: Read>(from: &mut R, buf: &mut [u8]) -> io::Result<usize>
+    ensures { IfOk result (λ n. n ≤ length buf.new) }
+{
+    let mut done = 0;
+    while done < buf.len() {
+        let n = from.read(&mut buf[done..])?;
+        if n == 0 {
+            break;
+        }
+        done += n;
+    }
+    Ok(done)
 }

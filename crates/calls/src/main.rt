@@ -2,10 +2,9 @@
 #![tactic(auto)]
 
 use std::io;
-use std::io::Read;
 
 fn main(rt: HostRuntime) -> io::Result<()> {
-    let mut list = Vec::new(rt.alloc());
-    rt.reader().take(65536).read_to_end(&mut list)?;
-    call_print::print_listing(&mut io::writer(&rt), list.as_slice())
+    let mut list = [0u8; 65536];
+    let n = call_print::read_full(&mut rt.reader(), &mut list)?;
+    call_print::print_listing(&mut io::writer(&rt), &list[0..n])
 }

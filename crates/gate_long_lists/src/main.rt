@@ -4,19 +4,21 @@
 #![tactic(auto)]
 
 use std::io;
-use std::io::Read;
 
-// Reads a list of n bytes and prints its listing after its name.
-fn print_next(rt: &(impl Input + Print + Alloc), name: &[u8], n: u64) -> io::Result<()> {
-    let mut list = Vec::new(rt.alloc());
-    rt.reader().take(n).read_to_end(&mut list)?;
+// Reads a list of as many bytes as lent and prints its listing after its name.
+fn print_next(rt: &(impl Input + Print), name: &[u8], list: &mut [u8]) -> io::Result<()> {
+    let n = call_print::read_full(&mut rt.reader(), list)?;
     rt.write_all(name)?;
-    call_print::print_listing(&mut io::writer(rt), list.as_slice())
+    call_print::print_listing(&mut io::writer(rt), &list[0..n])
 }
 
 fn main(rt: HostRuntime) -> io::Result<()> {
-    print_next(&rt, b"several parts\n", 65403)?;
-    print_next(&rt, b"a put looked up in the next part\n", 15300)?;
-    print_next(&rt, b"calls past the limit\n", 76679)?;
-    print_next(&rt, b"the limit inside a call\n", 66241)
+    let mut parts = [0u8; 65403];
+    print_next(&rt, b"several parts\n", &mut parts)?;
+    let mut across = [0u8; 15300];
+    print_next(&rt, b"a put looked up in the next part\n", &mut across)?;
+    let mut past = [0u8; 76679];
+    print_next(&rt, b"calls past the limit\n", &mut past)?;
+    let mut inside = [0u8; 66241];
+    print_next(&rt, b"the limit inside a call\n", &mut inside)
 }

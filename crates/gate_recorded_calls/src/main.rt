@@ -262,25 +262,10 @@ fn replay(rt: &impl Print, list: &[u8]) -> io::Result<()> {
     print_calls(rt, list)
 }
 
-// Reads until the buffer is full or the input ends; how many bytes it got.
-fn read_full(file: &mut impl Read, buf: &mut [u8]) -> io::Result<usize>
-    ensures { IfOk result (λ n. n ≤ length buf.new) }
-{
-    let mut done = 0;
-    while done < buf.len() {
-        let n = file.read(&mut buf[done..])?;
-        if n == 0 {
-            break;
-        }
-        done += n;
-    }
-    Ok(done)
-}
-
 // A number of eight bytes at the beginning of a file's rest, or 0 at its end.
 fn next_number(file: &mut impl Read) -> io::Result<u64> {
     let mut word = [0u8; 8];
-    if read_full(file, &mut word)? < 8 {
+    if call_print::read_full(file, &mut word)? < 8 {
         return Ok(0);
     }
     Ok(words::read_u64(&word, 0))
@@ -292,10 +277,10 @@ fn read_up_to(file: &mut impl Read, buf: &mut [u8], n: u64) -> io::Result<usize>
 {
     let all = buf.len();
     if all as u64 <= n {
-        return read_full(file, buf);
+        return call_print::read_full(file, buf);
     }
     let k = n as usize;
-    read_full(file, &mut buf[0..k])
+    call_print::read_full(file, &mut buf[0..k])
 }
 
 // The next list of the file, of which the first 65,536 bytes count. Whether there was one: a list has at least one byte.

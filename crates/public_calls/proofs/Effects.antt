@@ -12,10 +12,10 @@ use Rattle.image.specs.Claims.{call_fits}
 use Rattle.image.specs.Image.{bytes_step}
 use Rattle.image.proofs.EntriesFit.{writes_of_fit, members_of_fit}
 use Rattle.replies.specs.Replies.{answer_step, Stepped}
-use Rattle.public_calls.specs.PublicCalls.{PublicCall, open_store, install, look, get, put, advance, read, take, answer, answer_failed, bytes_call, SteppedAs, Made}
+use Rattle.public_calls.specs.PublicCalls.{PublicCall, open_store, install, look, get, put, advance, read, take, answer, answer_failed, bytes_call, SteppedBy, Made}
 
 pub data Effect (c : PublicCall) (before after : List ℕ) (x : Answer) : Type 0 where
-  performed : call_fits (bytes_call c).call ≡ true → SteppedAs c before after x → Effect c before after x
+  performed : call_fits (bytes_call c).call ≡ true → SteppedBy c before after x → Effect c before after x
   turned_down : (n : ℕ) → x ≡ refuse n → after ≡ before → Effect c before after x
 
 -- An answer whose members' flag bytes are known, or not.

@@ -17,7 +17,7 @@ use Rattle.image.specs.Claims.{call_fits}
 use Rattle.image.specs.Image.{decode, lent_call, bytes_after, bytes_step}
 use Rattle.image.proofs.Closure.{closure}
 use Rattle.image.proofs.OnBytes.{Holds, step_holds}
-use Rattle.public_calls.specs.PublicCalls.{PublicCall, open_store, bytes_call, model_calls, SteppedAs, Made, Run, ended, called}
+use Rattle.public_calls.specs.PublicCalls.{PublicCall, open_store, bytes_call, model_calls, SteppedBy, Made, Run, ended, called}
 use Rattle.public_calls.specs.Demand3ForCalls.{Demand3Met, DemandForCalls}
 use Rattle.public_calls.proofs.Effects.{Effect, performed, turned_down, effect}
 
@@ -28,13 +28,13 @@ abbrev state_step : PublicCall → List ℕ → StepResult
 state_step c b = step (decode b) (lent_call (length b) (bytes_call c))
 
 -- The bytes after a call that was performed read as the state after it.
-reads_as : (c : PublicCall) (b : List ℕ) {after : List ℕ} {x : Answer} → call_fits (bytes_call c).call ≡ true → SteppedAs c b after x → decode after ≡ (state_step c b).memory
+reads_as : (c : PublicCall) (b : List ℕ) {after : List ℕ} {x : Answer} → call_fits (bytes_call c).call ≡ true → SteppedBy c b after x → decode after ≡ (state_step c b).memory
 unfolding bytes_step
 reads_as c b f s =
     let h : Holds (bytes_after (state_step c b) b) (length b) (state_step c b).memory = step_holds closure b (bytes_call c) f in
     ap decode s.bytes_is ∙ h.reads
 
-answers_as : (c : PublicCall) (b : List ℕ) {after : List ℕ} {x : Answer} → SteppedAs c b after x → x ≡ (state_step c b).answer
+answers_as : (c : PublicCall) (b : List ℕ) {after : List ℕ} {x : Answer} → SteppedBy c b after x → x ≡ (state_step c b).answer
 unfolding bytes_step
 answers_as c b s = s.answer_is
 

@@ -50,24 +50,24 @@ abbrev pub model_calls : List PublicCall → List Call
 model_calls cs = map (λ c. (bytes_call c).call) cs
 
 -- A call answered, and left the store's bytes, as its definition says.
-abbrev pub SteppedAs : PublicCall → List ℕ → List ℕ → Answer → Type 0
-SteppedAs c before after x = Stepped x after (bytes_step before (bytes_call c))
+abbrev pub SteppedBy : PublicCall → List ℕ → List ℕ → Answer → Type 0
+SteppedBy c before after x = Stepped x after (bytes_step before (bytes_call c))
 
 -- A call was made: it found the store's bytes as `before`, left them as `after`, and answered, as its function's contract says.
 -- Of its arguments, what their types give: words below 2^64, an address's first word below 2^32, bytes below 256.
 abbrev pub Made : PublicCall → List ℕ → List ℕ → Answer → Type 0
-Made (open_store capacity depth R) before after x = (retention_fits R ≡ true) × SteppedAs (open_store capacity depth R) before after x
-Made (install a) before after x = (anchor_fits a ≡ true) × SteppedAs (install a) before after x
-Made (look a s) before after x = (slot_fits s ≡ true) × SteppedAs (look a s) before after x
-Made (get a s) before after x = (slot_fits s ≡ true) × SteppedAs (get a s) before after x
-Made (put a s v) before after x = (slot_fits s ≡ true) × (u256_fits v ≡ true) × SteppedAs (put a s v) before after x
+Made (open_store capacity depth R) before after x = (retention_fits R ≡ true) × SteppedBy (open_store capacity depth R) before after x
+Made (install a) before after x = (anchor_fits a ≡ true) × SteppedBy (install a) before after x
+Made (look a s) before after x = (slot_fits s ≡ true) × SteppedBy (look a s) before after x
+Made (get a s) before after x = (slot_fits s ≡ true) × SteppedBy (get a s) before after x
+Made (put a s v) before after x = (slot_fits s ≡ true) × (u256_fits v ≡ true) × SteppedBy (put a s v) before after x
 Made (advance child h k addresses writes work out) before after x =
-    (anchor_fits child ≡ true) × Bytes writes × SteppedAs (advance child h k addresses writes work out) before after x
-Made (read a s) before after x = (slot_fits s ≡ true) × SteppedAs (read a s) before after x
-Made (take a out) before after x = SteppedAs (take a out) before after x
+    (anchor_fits child ≡ true) × Bytes writes × SteppedBy (advance child h k addresses writes work out) before after x
+Made (read a s) before after x = (slot_fits s ≡ true) × SteppedBy (read a s) before after x
+Made (take a out) before after x = SteppedBy (take a out) before after x
 -- a flag byte that is neither 0 nor 1 is refused first
 Made (answer a members) before after x = Bytes members × Stepped x after (answer_step before a members)
-Made (answer_failed a slots) before after x = SteppedAs (answer_failed a slots) before after x
+Made (answer_failed a slots) before after x = SteppedBy (answer_failed a slots) before after x
 
 -- Calls were made one after the other, each finding the bytes as the last one left them: of the bytes before, the calls, their answers, and the bytes after.
 pub data Run : List ℕ → List PublicCall → List Answer → List ℕ → Type 0 where

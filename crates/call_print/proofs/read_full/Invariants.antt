@@ -1,6 +1,6 @@
 -- What was read is in the buffer, and what is left falls.
 use Rattle.std.proofs.Common.{◌-◌, ◌≤◌, length}
-use Rattle.gate_recorded_calls.proofs.read_full.Given as goal
+use Rattle.call_print.proofs.read_full.Given as goal
 
 abbrev pub invariant-loop-done : goal.invariant-loop-done
 invariant-loop-done g l = l.done ≤ length l.buf
