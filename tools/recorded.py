@@ -14,9 +14,8 @@ LONGEST = 16384
 # The small lists, and those by hand that came later.
 CHOSEN = ["00[0-5]?-*.calls", "006[0-4]-*.calls", "0299-*.calls", "03??-*.calls"]
 HEAD = """-- Recorded call lists with the oracle's listings (oracle/recorded), written by tools/recorded.py.
-use Prim.Native.Nat.{ℕ}
+use Rattle.std.specs.Prelude.{ℕ, List, [], ◌∷◌}
 use Prim.Native.String.{String}
-use mathlib.Core.List.{List, [], _∷_}
 
 -- A call list's bytes, its listing, and its listing with details.
 pub record RecordedList : Type 0 where
@@ -24,8 +23,8 @@ pub record RecordedList : Type 0 where
   pub text : String
   pub detail : String
 
-abbrev pub recorded-list : List ℕ → String → String → RecordedList
-recorded-list b t d = record { bytes = b; text = t; detail = d }
+abbrev pub recorded_list : List ℕ → String → String → RecordedList
+recorded_list b t d = record { bytes = b; text = t; detail = d }
 """
 
 
@@ -36,7 +35,7 @@ def entry(path):
     detail = open(stem + ".detail").read().replace("\n", "\\n")
     numbers = " ∷ ".join([str(b) for b in data] + ["[]"])
     name = os.path.basename(path)[: -len(".calls")]
-    return "    -- %s\n    recorded-list (%s) \"%s\" \"%s\"" % (name, numbers, text, detail)
+    return "    -- %s\n    recorded_list (%s) \"%s\" \"%s\"" % (name, numbers, text, detail)
 
 
 def main():
@@ -48,7 +47,7 @@ def main():
     body = "\n    ∷\n".join(entries) + "\n    ∷ []" if entries else "    []"
     with open(os.path.join(ROOT, "crates", "recorded", "specs", "Lists.antt"), "w") as out:
         out.write(HEAD)
-        out.write("\nunfoldable pub recorded-lists : List RecordedList\nrecorded-lists =\n%s\n" % body)
+        out.write("\nunfoldable pub recorded_lists : List RecordedList\nrecorded_lists =\n%s\n" % body)
     left_out = len(set(paths)) - len(short)
     print("%d list%s%s" % (len(entries), "" if len(entries) == 1 else "s", " (%d too long)" % left_out if left_out else ""))
 

@@ -1,5 +1,5 @@
 /* The first carried block: a pool's reserve and fee, from block 100 to block 101. bindings/run builds and runs it:
- *     cc -std=c11 -I bindings/c bindings/c/example.c target/staticlib/libpoxilme.a -o example && ./example
+ *     cc -std=c11 -I bindings/c bindings/c/example.c crates/poxilme/out/libpoxilme.a -o example && ./example
  */
 #include "poxilme.h"
 

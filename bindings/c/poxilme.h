@@ -1,5 +1,5 @@
 /* Poxilme: a store for the storage values of a block chain's contracts. The functions of libpoxilme.a, which
- * `rt staticlib poxilme` proves and builds (target/staticlib/libpoxilme.a). docs/USING.md has a first program,
+ * `tools/prove poxilme` proves and builds (crates/poxilme/out/libpoxilme.a). docs/USING.md has a first program,
  * docs/REFERENCE.md what each call does.
  *
  * Memory. The store lives in bytes that the caller lends to each call as `s`; the library allocates nothing and keeps

@@ -1,4 +1,4 @@
-//! Finds the static library: in the folder that `POXILME_LIB_DIR` names, or in `target/staticlib` of the repository that
+//! Finds the static library: in the folder that `POXILME_LIB_DIR` names, or in `crates/poxilme/out` of the repository that
 //! this crate stands in.
 
 use std::env;
@@ -27,7 +27,7 @@ fn library_folder() -> Result<PathBuf, String> {
     }
     let package = PathBuf::from(env::var_os("CARGO_MANIFEST_DIR").expect("cargo sets it"));
     let folder = match env::var_os(VARIABLE) {
-        None => package.join("../../target/staticlib"),
+        None => package.join("../../crates/poxilme/out"),
         Some(folder) if PathBuf::from(&folder).is_absolute() => PathBuf::from(folder),
         Some(folder) => {
             return Err(format!("{VARIABLE} has to be an absolute path, and is {}", PathBuf::from(folder).display()))
@@ -35,7 +35,7 @@ fn library_folder() -> Result<PathBuf, String> {
     };
     if !folder.join(FILE).is_file() {
         return Err(format!(
-            "there is no {FILE} in {}: run `rt staticlib poxilme` in the repository's root, or name the folder that has it in \
+            "there is no {FILE} in {}: run `tools/prove poxilme` in the repository's root, or name the folder that has it in \
              {VARIABLE}",
             folder.display()
         ));

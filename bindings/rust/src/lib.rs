@@ -1,6 +1,6 @@
 //! Poxilme keeps storage values of contracts at one block, and carries them to the next block when that block's list of changed
 //! slots says what is still right. It is a port of degenbot's `DeltaSnapshotCache`, with its names; what each call answers is
-//! proved (docs/TOUR.md), by `rt staticlib poxilme`, which makes the library that this crate links.
+//! proved (docs/TOUR.md), by `tools/prove poxilme`, which makes the library that this crate links.
 //!
 //! [`DeltaSnapshotCache`] has the calls. It owns its memory and fetches nothing: between [`DeltaSnapshotCache::take_queued`] and
 //! [`DeltaSnapshotCache::answer`] the caller asks its node, and before [`DeltaSnapshotCache::apply_prepared`] it fetches the block
