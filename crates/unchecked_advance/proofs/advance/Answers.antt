@@ -34,13 +34,13 @@ overflow_add-read_u64 c =
 
 pub returns-then-work-read_u64 : goal.returns-then-work-read_u64
 returns-then-work-read_u64 c =
-    let skips : Skips c.args.skip c.args.writes.now = ⊎_elim (λ w. inr (w.if-n-ne0.false, w.if-skip-gt3.false)) (λ w. inl w.if-skip-ne0.false) c.if-skip-ne0.branch-raw in
+    let skips : Skips c.args.skip c.args.writes.now = ⊎_elim (λ w. inr (w.if-n-ne0.false, omega arith)) (λ w. inl w.if-skip-ne0.false) c.if-skip-ne0.branch-raw in
     let a = c.args in
     refused_9_work a.s.now a.child a.parent_hash a.skip a.addresses.now a.writes.now a.work.now a.out.now c.requires skips _ c.read_u64.ensures c.if-work-read_u64.true
 
 pub returns-then-out-n : goal.returns-then-out-n
 returns-then-out-n c =
-    let skips : Skips c.args.skip c.args.writes.now = ⊎_elim (λ w. inr (w.if-n-ne0.false, w.if-skip-gt3.false)) (λ w. inl w.if-skip-ne0.false) c.if-skip-ne0.branch-raw in
+    let skips : Skips c.args.skip c.args.writes.now = ⊎_elim (λ w. inr (w.if-n-ne0.false, omega arith)) (λ w. inl w.if-skip-ne0.false) c.if-skip-ne0.branch-raw in
     let a = c.args in
     refused_9_output a.s.now a.child a.parent_hash a.skip a.addresses.now a.writes.now a.work.now a.out.now c.requires skips c.if-out-n.true
 
@@ -52,7 +52,7 @@ proceed-requires c =
 
 pub returns : goal.returns
 returns c =
-    let skips : Skips c.args.skip c.args.writes.now = ⊎_elim (λ w. inr (w.if-n-ne0.false, w.if-skip-gt3.false)) (λ w. inl w.if-skip-ne0.false) c.if-skip-ne0.branch-raw in
+    let skips : Skips c.args.skip c.args.writes.now = ⊎_elim (λ w. inr (w.if-n-ne0.false, omega arith)) (λ w. inl w.if-skip-ne0.false) c.if-skip-ne0.branch-raw in
     let fits : (c.read_u64.result ≡ (store_of c.args.s.now).config.capacity) × (c.read_u64.result ≤ 4096) = capacity_fits c.args.s.now _ c.requires c.read_u64.ensures in
     let a = c.args in
     answered_by a.s.now a.child a.parent_hash a.skip a.addresses.now a.writes.now a.work.now a.out.now c.requires skips _ _ _ (omega (arith, fits, c.if-work-read_u64.false)) c.if-out-n.false c.proceed.ensures
