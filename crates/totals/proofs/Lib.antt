@@ -1,4 +1,4 @@
--- Laws of the read totals: their bounds, their places in bytes, in a store; and the loans of the functions that are proved by hand.
+-- Laws of the read totals: their bounds, their places in bytes, and in a store.
 pub mod Bounds
 pub mod Places
 pub mod InStore
