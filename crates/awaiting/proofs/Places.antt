@@ -1,4 +1,5 @@
 -- The place of a slot among awaiting slots: what the search shows, and what a caller learns of it.
+use Rattle.std.specs.Prelude.{Err, Ok}
 use Prim.Native.Nat.{ℕ, zero, suc, ◌+◌, ◌≤◌, ◌<◌}
 use mathlib.Core.Path.{◌≡◌, refl, ap, ◌∙◌}
 use mathlib.Core.Bool.{Bool, true, false, cond}
@@ -14,8 +15,7 @@ use Rattle.model.specs.Contents.{use_only}
 use Rattle.model.specs.Layers.{Layer}
 use Rattle.image.specs.WellFormed.{rising_from, rising, slot_fits, pending_ok_from, pending_ok}
 use Rattle.image.specs.Image.{read_pending}
-use Rattle.records.specs.declared.Found.{Found}
-use Rattle.records.specs.declared.Found.TheVariants.{At, Absent}
+use Rattle.records.specs.Records.{Found}
 use Rattle.records.specs.Records.{record_at}
 use Rattle.records.specs.Records as records
 use Rattle.awaiting.specs.Awaiting.{place_from, place_in}
@@ -38,7 +38,7 @@ slot_as (w ∷ q) (suc i) = slot_as q i
 place_as_from : (b : ℕ) (t : Slot) (q : List Pending) → records.place_from b t (as_records q) ≡ place_from b t q
 unfolding records.place_from place_from
 place_as_from b t [] = refl
-place_as_from b t (w ∷ q) = ap (λ (x : Found). cond (slot_eqb w.slot t) (At b) (cond (slot_ltb t w.slot) (Absent b) x)) (place_as_from (suc b) t q)
+place_as_from b t (w ∷ q) = ap (λ (x : Found). cond (slot_eqb w.slot t) (Ok b) (cond (slot_ltb t w.slot) (Err b) x)) (place_as_from (suc b) t q)
 
 pub place_as : (t : Slot) (q : List Pending) → records.place_in t (as_records q) ≡ place_in t q
 place_as t q = place_as_from 0 t q
@@ -69,47 +69,47 @@ pub record FoundAt (t : Slot) (q : List Pending) (i : ℕ) : Type 0 where
   pub joins : join t q ≡ take i q ++ (record { slot = t; waiters = suc (pending_at i q).waiters; taken = (pending_at i q).taken } ∷ drop (suc i) q)
   pub removes : remove_pending t q ≡ take i q ++ drop (suc i) q
 
-at_least : (q : List Pending) (b : ℕ) (t : Slot) (k : ℕ) → place_from b t q ≡ At k → b ≤ k
+at_least : (q : List Pending) (b : ℕ) (t : Slot) (k : ℕ) → place_from b t q ≡ Ok k → b ≤ k
 unfolding place_from
 at_least [] b t k e = let z : ◌≡◌ {A = ℕ} 0 1 = cc in absurd (omega arith)
 at_least (w ∷ q) b t k e =
     split (slot_eqb w.slot t)
-    (λ p. let f : At b ≡ At k = rw p at e in let z : b ≡ k = cc in omega arith)
+    (λ p. let f : Ok b ≡ Ok k = rw p at e in let z : b ≡ k = cc in omega arith)
     (λ p. split (slot_ltb t w.slot)
-    (λ o. let f : Absent b ≡ At k = rw (p, o) at e in let z : ◌≡◌ {A = ℕ} 0 1 = cc in absurd (omega arith))
+    (λ o. let f : Err b ≡ Ok k = rw (p, o) at e in let z : ◌≡◌ {A = ℕ} 0 1 = cc in absurd (omega arith))
     (λ o. let h : suc b ≤ k = at_least q (suc b) t k (rw (p, o) at e) in omega arith))
 
 -- The search goes past the first slot: it is not the one, and does not come after it.
-passed : (w : Pending) (q : List Pending) (b : ℕ) (t : Slot) (k : ℕ) → b < k → place_from b t (w ∷ q) ≡ At k
-    → (slot_eqb w.slot t ≡ false) × (slot_ltb t w.slot ≡ false) × (place_from (suc b) t q ≡ At k)
+passed : (w : Pending) (q : List Pending) (b : ℕ) (t : Slot) (k : ℕ) → b < k → place_from b t (w ∷ q) ≡ Ok k
+    → (slot_eqb w.slot t ≡ false) × (slot_ltb t w.slot ≡ false) × (place_from (suc b) t q ≡ Ok k)
 unfolding place_from
 passed w q b t k h e =
     split (slot_eqb w.slot t)
-    (λ p. let f : At b ≡ At k = rw p at e in let z : b ≡ k = cc in absurd (omega arith))
+    (λ p. let f : Ok b ≡ Ok k = rw p at e in let z : b ≡ k = cc in absurd (omega arith))
     (λ p. split (slot_ltb t w.slot)
-    (λ o. let f : Absent b ≡ At k = rw (p, o) at e in let z : ◌≡◌ {A = ℕ} 0 1 = cc in absurd (omega arith))
+    (λ o. let f : Err b ≡ Ok k = rw (p, o) at e in let z : ◌≡◌ {A = ℕ} 0 1 = cc in absurd (omega arith))
     (λ o. (p, o, rw (p, o) at e)))
 
-here : (w : Pending) (q : List Pending) (b : ℕ) (t : Slot) → place_from b t (w ∷ q) ≡ At b → slot_eqb w.slot t ≡ true
+here : (w : Pending) (q : List Pending) (b : ℕ) (t : Slot) → place_from b t (w ∷ q) ≡ Ok b → slot_eqb w.slot t ≡ true
 unfolding place_from
 here w q b t e =
     split (slot_eqb w.slot t)
     (λ p. p)
     (λ p. split (slot_ltb t w.slot)
-    (λ o. let f : Absent b ≡ At b = rw (p, o) at e in let z : ◌≡◌ {A = ℕ} 0 1 = cc in absurd (omega arith))
+    (λ o. let f : Err b ≡ Ok b = rw (p, o) at e in let z : ◌≡◌ {A = ℕ} 0 1 = cc in absurd (omega arith))
     (λ o. let h : suc b ≤ b = at_least q (suc b) t b (rw (p, o) at e) in absurd (omega arith)))
 
-found_from : (q : List Pending) (b : ℕ) (t : Slot) (i : ℕ) → place_from b t q ≡ At (b + i) → FoundAt t q i
+found_from : (q : List Pending) (b : ℕ) (t : Slot) (i : ℕ) → place_from b t q ≡ Ok (b + i) → FoundAt t q i
 unfolding place_from waiters_of is_taken is_awaiting join remove_pending
 found_from [] b t i e = let z : ◌≡◌ {A = ℕ} 0 1 = cc in absurd (omega arith)
 found_from (w ∷ q) b t zero e =
     let n : b + 0 ≡ b = omega arith in
-    let p : slot_eqb w.slot t ≡ true = here w q b t (e ∙ ap At n) in
+    let p : slot_eqb w.slot t ≡ true = here w q b t (e ∙ ap Ok n) in
     record { inside = omega arith; slot_is = slot_eqb_true w.slot t p; waiters_are = rw p; taken_is = rw p; awaits = rw p; joins = rw p; removes = rw p }
 found_from (w ∷ q) b t (suc i) e =
     let n : b + suc i ≡ suc b + i = omega arith in
     let h = passed w q b t (b + suc i) (omega arith) e in
-    let f : FoundAt t q i = found_from q (suc b) t i (h.2 ∙ ap At n) in
+    let f : FoundAt t q i = found_from q (suc b) t i (h.2 ∙ ap Ok n) in
     record {
       inside = let k : i < length q = f.inside in omega arith;
       slot_is = f.slot_is;
@@ -120,8 +120,8 @@ found_from (w ∷ q) b t (suc i) e =
       removes = rw h.0 (ap (λ (l : List Pending). w ∷ l) f.removes);
     }
 
-pub found : (q : List Pending) (t : Slot) (i : ℕ) → place_in t q ≡ At i → FoundAt t q i
-found q t i e = let n : i ≡ 0 + i = omega arith in found_from q 0 t i (e ∙ ap At n)
+pub found : (q : List Pending) (t : Slot) (i : ℕ) → place_in t q ≡ Ok i → FoundAt t q i
+found q t i e = let n : i ≡ 0 + i = omega arith in found_from q 0 t i (e ∙ ap Ok n)
 
 -- An absent slot ----------------------------------------------------------------------------------------
 
@@ -130,38 +130,38 @@ pub record AbsentAt (t : Slot) (q : List Pending) (i : ℕ) : Type 0 where
   pub within : i ≤ length q
   pub joins : join t q ≡ take i q ++ (record { slot = t; waiters = 1; taken = false } ∷ drop i q)
 
-absent_least : (q : List Pending) (b : ℕ) (t : Slot) (k : ℕ) → place_from b t q ≡ Absent k → b ≤ k
+absent_least : (q : List Pending) (b : ℕ) (t : Slot) (k : ℕ) → place_from b t q ≡ Err k → b ≤ k
 unfolding place_from
 absent_least [] b t k e = let z : b ≡ k = cc in omega arith
 absent_least (w ∷ q) b t k e =
     split (slot_eqb w.slot t)
-    (λ p. let f : At b ≡ Absent k = rw p at e in let z : ◌≡◌ {A = ℕ} 0 1 = cc in absurd (omega arith))
+    (λ p. let f : Ok b ≡ Err k = rw p at e in let z : ◌≡◌ {A = ℕ} 0 1 = cc in absurd (omega arith))
     (λ p. split (slot_ltb t w.slot)
-    (λ o. let f : Absent b ≡ Absent k = rw (p, o) at e in let z : b ≡ k = cc in omega arith)
+    (λ o. let f : Err b ≡ Err k = rw (p, o) at e in let z : b ≡ k = cc in omega arith)
     (λ o. let h : suc b ≤ k = absent_least q (suc b) t k (rw (p, o) at e) in omega arith))
 
-absent_from : (q : List Pending) (b : ℕ) (t : Slot) (i : ℕ) → place_from b t q ≡ Absent (b + i) → AbsentAt t q i
+absent_from : (q : List Pending) (b : ℕ) (t : Slot) (i : ℕ) → place_from b t q ≡ Err (b + i) → AbsentAt t q i
 unfolding place_from join
 absent_from [] b t zero e = record { within = omega arith; joins = refl }
 absent_from [] b t (suc i) e = let z : b ≡ b + suc i = cc in absurd (omega arith)
 absent_from (w ∷ q) b t zero e =
     split (slot_eqb w.slot t)
-    (λ p. let f : At b ≡ Absent (b + 0) = rw p at e in let z : ◌≡◌ {A = ℕ} 0 1 = cc in absurd (omega arith))
+    (λ p. let f : Ok b ≡ Err (b + 0) = rw p at e in let z : ◌≡◌ {A = ℕ} 0 1 = cc in absurd (omega arith))
     (λ p. split (slot_ltb t w.slot)
     (λ o. record { within = omega arith; joins = rw (p, o) })
     (λ o. let h : suc b ≤ b + 0 = absent_least q (suc b) t (b + 0) (rw (p, o) at e) in absurd (omega arith)))
 absent_from (w ∷ q) b t (suc i) e =
     let n : b + suc i ≡ suc b + i = omega arith in
     split (slot_eqb w.slot t)
-    (λ p. let f : At b ≡ Absent (b + suc i) = rw p at e in let z : ◌≡◌ {A = ℕ} 0 1 = cc in absurd (omega arith))
+    (λ p. let f : Ok b ≡ Err (b + suc i) = rw p at e in let z : ◌≡◌ {A = ℕ} 0 1 = cc in absurd (omega arith))
     (λ p. split (slot_ltb t w.slot)
-    (λ o. let f : Absent b ≡ Absent (b + suc i) = rw (p, o) at e in let z : b ≡ b + suc i = cc in absurd (omega arith))
-    (λ o. let f : place_from (suc b) t q ≡ Absent (b + suc i) = rw (p, o) at e in
-    let k : AbsentAt t q i = absent_from q (suc b) t i (f ∙ ap Absent n) in
+    (λ o. let f : Err b ≡ Err (b + suc i) = rw (p, o) at e in let z : b ≡ b + suc i = cc in absurd (omega arith))
+    (λ o. let f : place_from (suc b) t q ≡ Err (b + suc i) = rw (p, o) at e in
+    let k : AbsentAt t q i = absent_from q (suc b) t i (f ∙ ap Err n) in
     record { within = let m : i ≤ length q = k.within in omega arith; joins = rw (p, o) (ap (λ (l : List Pending). w ∷ l) k.joins) }))
 
-pub absent : (q : List Pending) (t : Slot) (i : ℕ) → place_in t q ≡ Absent i → AbsentAt t q i
-absent q t i e = let n : i ≡ 0 + i = omega arith in absent_from q 0 t i (e ∙ ap Absent n)
+pub absent : (q : List Pending) (t : Slot) (i : ℕ) → place_in t q ≡ Err i → AbsentAt t q i
+absent q t i e = let n : i ≡ 0 + i = omega arith in absent_from q 0 t i (e ∙ ap Err n)
 
 -- An absent slot among right awaiting slots is none of them.
 pub record NotAmong (t : Slot) (q : List Pending) : Type 0 where
@@ -196,15 +196,15 @@ below_all t s (w ∷ q) p e =
     let x : slot_ltb t w.slot ≡ true = slot_ltb_trans t s w.slot p (and_left (slot_ltb s w.slot) _ e) in
     not_among_more t w q (slot_eqb_sym w.slot t ∙ slot_ltb_eqb t w.slot x) (below_all t w.slot q x (rest_ok w q (and_right (slot_ltb s w.slot) _ e)))
 
-not_among_from : (q : List Pending) (b : ℕ) (t : Slot) (k : ℕ) → pending_ok q ≡ true → place_from b t q ≡ Absent k → NotAmong t q
+not_among_from : (q : List Pending) (b : ℕ) (t : Slot) (k : ℕ) → pending_ok q ≡ true → place_from b t q ≡ Err k → NotAmong t q
 unfolding place_from
 not_among_from [] b t k h e = not_among_none t
 not_among_from (w ∷ q) b t k h e =
     split (slot_eqb w.slot t)
-    (λ p. let f : At b ≡ Absent k = rw p at e in let z : ◌≡◌ {A = ℕ} 0 1 = cc in absurd (omega arith))
+    (λ p. let f : Ok b ≡ Err k = rw p at e in let z : ◌≡◌ {A = ℕ} 0 1 = cc in absurd (omega arith))
     (λ p. not_among_more t w q p (split (slot_ltb t w.slot)
     (λ o. below_all t w.slot q o (rest_ok w q h))
     (λ o. not_among_from q (suc b) t k (from_ok w.slot q (rest_ok w q h)) (rw (p, o) at e))))
 
-pub not_among : (q : List Pending) (t : Slot) (i : ℕ) → pending_ok q ≡ true → place_in t q ≡ Absent i → NotAmong t q
+pub not_among : (q : List Pending) (t : Slot) (i : ℕ) → pending_ok q ≡ true → place_in t q ≡ Err i → NotAmong t q
 not_among q t i h e = not_among_from q 0 t i h e

@@ -43,7 +43,7 @@ pub fn waiters(s: &[u8], n: usize, slot: Slot) -> u64
     requires { Rising n s.now }
     ensures { result ≡ reads.waiters_of slot (pending_of n s.now) }
 {
-    let Found::At(i) = find(s, n, slot) else {
+    let Ok(i) = find(s, n, slot) else {
         return 0;
     };
     waiters_at(s, i)
@@ -54,7 +54,7 @@ pub fn is_taken(s: &[u8], n: usize, slot: Slot) -> bool
     requires { Rising n s.now }
     ensures { result ≡ reads.is_taken slot (pending_of n s.now) }
 {
-    let Found::At(i) = find(s, n, slot) else {
+    let Ok(i) = find(s, n, slot) else {
         return false;
     };
     taken_at(s, i)
@@ -66,8 +66,8 @@ pub fn is_awaiting(s: &[u8], n: usize, slot: Slot) -> bool
     ensures { result ≡ reads.is_awaiting slot (pending_of n s.now) }
 {
     match find(s, n, slot) {
-        Found::At(_) => true,
-        Found::Absent(_) => false,
+        Ok(_) => true,
+        Err(_) => false,
     }
 }
 
@@ -98,12 +98,12 @@ pub fn join(s: &mut [u8], n: usize, slot: Slot) -> usize
     ensures { Holds result s.new n (reads.join slot (pending_of n s.old)) s.old }
 {
     match find(s, n, slot) {
-        Found::At(i) => {
+        Ok(i) => {
             let w = waiters_at(s, i);
             words::write_u64(s, i * layout::AWAITING_SIZE + layout::WAITERS_OFFSET, w + 1);
             n
         }
-        Found::Absent(i) => {
+        Err(i) => {
             insert_at(s, n, i, slot);
             n + 1
         }
@@ -115,29 +115,7 @@ pub fn queue_len(s: &[u8], n: usize) -> usize
     requires { n * awaiting_size ≤ length s.now }
     ensures { result ≡ length (reads.queued (pending_of n s.now)) }
 {
-    let mut k = 0;
-    let mut i = 0;
-    while i < n {
-        if !taken_at(s, i) {
-            k += 1;
-        }
-        i += 1;
-    }
-    k
-}
-
-// Writes the slot of awaiting slot i as output entry k, unless it is taken; the number of entries then.
-fn list_one(s: &[u8], i: usize, out: &mut [u8], k: usize) -> usize
-    requires { ((i + 1) * awaiting_size ≤ length s.now) × ((entry_at i s.now).taken ≡ false → (k + 1) * 52 ≤ length out.old) }
-    ensures { (result ≡ cond (entry_at i s.now).taken k (k + 1)) × (out.new ≡ cond (entry_at i s.now).taken out.old (placed (k * 52) (part (i * awaiting_size + 4) 52 s.now) out.old)) }
-{
-    if taken_at(s, i) {
-        return k;
-    }
-    let a = i * layout::AWAITING_SIZE + 4;
-    let e = i * layout::AWAITING_SIZE + layout::WAITERS_OFFSET;
-    words::place(out, k * 52, &s[a..e]);
-    k + 1
+    (0..n).filter(|i| !taken_at(s, *i)).count()
 }
 
 // Lists the queue's slots, rising, to the output; their number.
@@ -146,10 +124,12 @@ fn list_queued(s: &[u8], n: usize, out: &mut [u8]) -> usize
     ensures { Lists result out.new (pending_of n s.now) out.old }
 {
     let mut k = 0;
-    let mut i = 0;
-    while i < n {
-        k = list_one(s, i, out, k);
-        i += 1;
+    for i in 0..n {
+        if !taken_at(s, i) {
+            let at = i * layout::AWAITING_SIZE + 4;
+            words::place(out, k * 52, &s[at..at + 52]);
+            k += 1;
+        }
     }
     k
 }
@@ -159,10 +139,8 @@ fn mark_taken(s: &mut [u8], n: usize)
     requires { Ready n s.old }
     ensures { s.new ≡ with_pending n (reads.take_queued (pending_of n s.old)) s.old }
 {
-    let mut i = 0;
-    while i < n {
+    for i in 0..n {
         words::write_u64(s, i * layout::AWAITING_SIZE + layout::TAKEN_OFFSET, 1);
-        i += 1;
     }
 }
 
@@ -195,7 +173,7 @@ pub fn remove(s: &mut [u8], n: usize, slot: Slot) -> usize
     requires { Ready n s.old }
     ensures { Holds result s.new n (reads.remove_pending slot (pending_of n s.old)) s.old }
 {
-    let Found::At(i) = find(s, n, slot) else {
+    let Ok(i) = find(s, n, slot) else {
         return n;
     };
     remove_at(s, n, i);
@@ -206,54 +184,29 @@ pub fn remove(s: &mut [u8], n: usize, slot: Slot) -> usize
 fn same(a: Slot, b: Slot) -> bool
     ensures { result ≡ slot_eqb a b }
 {
-    if a.address.w0 != b.address.w0 {
-        return false;
-    }
-    if a.address.w1 != b.address.w1 {
-        return false;
-    }
-    if a.address.w2 != b.address.w2 {
-        return false;
-    }
-    if a.index.w0 != b.index.w0 {
-        return false;
-    }
-    if a.index.w1 != b.index.w1 {
-        return false;
-    }
-    if a.index.w2 != b.index.w2 {
-        return false;
-    }
-    a.index.w3 == b.index.w3
+    a == b
 }
 
-// Whether the entries from `from` on name a slot.
-fn names(list: &[u8], stride: usize, from: usize, slot: Slot) -> bool
-    requires { (52 ≤ stride) × (from ≤ length list.now) }
-    ensures { result ≡ mem slot (entry_slots stride (drop from list.now)) }
+// Whether a lent list names a slot.
+fn names<const STRIDE: usize>(list: &[u8], slot: Slot) -> bool
+    requires { 52 ≤ STRIDE }
+    ensures { result ≡ mem slot (entry_slots STRIDE list.now) }
 {
-    let mut at = from;
-    while stride <= list.len() - at {
-        if same(entries::read_slot(list, at), slot) {
-            return true;
-        }
-        at += stride;
-    }
-    false
+    list.chunks_exact(STRIDE)
+        .any(|entry| same(entries::read_slot(entry, 0), slot))
 }
 
 // Whether a lent list names a slot twice.
-pub fn has_duplicate(list: &[u8], stride: usize) -> bool
-    requires { 52 ≤ stride }
-    ensures { result ≡ reads.has_duplicate (entry_slots stride list.now) }
+pub fn has_duplicate<const STRIDE: usize>(list: &[u8]) -> bool
+    requires { 52 ≤ STRIDE }
+    ensures { result ≡ reads.has_duplicate (entry_slots STRIDE list.now) }
 {
-    let mut at = 0;
-    while stride <= list.len() - at {
-        let slot = entries::read_slot(list, at);
-        at += stride;
-        if names(list, stride, at, slot) {
+    let mut rest = list;
+    while let Some((entry, later)) = rest.split_at_checked(STRIDE) {
+        if names::<STRIDE>(later, entries::read_slot(entry, 0)) {
             return true;
         }
+        rest = later;
     }
     false
 }
@@ -262,54 +215,26 @@ pub fn has_duplicate(list: &[u8], stride: usize) -> bool
 pub fn flags_known(list: &[u8]) -> bool
     ensures { result ≡ flags_known list.now }
 {
-    let mut at = 0;
-    while 85 <= list.len() - at {
-        if 1 < list[at + 52] {
-            return false;
-        }
-        at += 85;
-    }
-    true
+    list.chunks_exact(85).all(|member| member[52] <= 1)
 }
 
 // Whether every slot of a lent list is taken.
-pub fn all_taken(s: &[u8], n: usize, list: &[u8], stride: usize) -> bool
-    requires { Rising n s.now × (52 ≤ stride) }
-    ensures { result ≡ reads.all_taken (entry_slots stride list.now) (pending_of n s.now) }
+pub fn all_taken<const STRIDE: usize>(s: &[u8], n: usize, list: &[u8]) -> bool
+    requires { Rising n s.now × (52 ≤ STRIDE) }
+    ensures { result ≡ reads.all_taken (entry_slots STRIDE list.now) (pending_of n s.now) }
 {
-    let mut at = 0;
-    while stride <= list.len() - at {
-        if !is_taken(s, n, entries::read_slot(list, at)) {
-            return false;
-        }
-        at += stride;
-    }
-    true
+    list.chunks_exact(STRIDE)
+        .all(|entry| is_taken(s, n, entries::read_slot(entry, 0)))
 }
 
 // The waiters that an answer to the slots of a lent list wakes.
-pub fn woken(s: &[u8], n: usize, list: &[u8], stride: usize) -> u64
-    requires { Ready n s.now × (52 ≤ stride) × (reads.has_duplicate (entry_slots stride list.now) ≡ false) }
-    ensures { result ≡ reads.woken (entry_slots stride list.now) (pending_of n s.now) }
+pub fn woken<const STRIDE: usize>(s: &[u8], n: usize, list: &[u8]) -> u64
+    requires { Ready n s.now × (52 ≤ STRIDE) × (reads.has_duplicate (entry_slots STRIDE list.now) ≡ false) }
+    ensures { result ≡ reads.woken (entry_slots STRIDE list.now) (pending_of n s.now) }
 {
-    let mut sum: u64 = 0;
-    let mut at = 0;
-    while stride <= list.len() - at {
-        sum += waiters(s, n, entries::read_slot(list, at));
-        at += stride;
-    }
-    sum
-}
-
-// The waiters of the member at `at`, if it has a value.
-fn valued_at(s: &[u8], n: usize, list: &[u8], at: usize) -> u64
-    requires { Rising n s.now × (at + 85 ≤ length list.now) }
-    ensures { result ≡ cond (eqb (get_or list.now (at + 52) 0) 0) 0 (reads.waiters_of (slot_of (drop at list.now)) (pending_of n s.now)) }
-{
-    if list[at + 52] == 0 {
-        return 0;
-    }
-    waiters(s, n, entries::read_slot(list, at))
+    list.chunks_exact(STRIDE)
+        .map(|entry| waiters(s, n, entries::read_slot(entry, 0)))
+        .sum()
 }
 
 // The waiters that the members of a lent answer wake with a value.
@@ -317,40 +242,29 @@ pub fn woken_valued(s: &[u8], n: usize, list: &[u8]) -> u64
     requires { Ready n s.now × (reads.has_duplicate (entry_slots 85 list.now) ≡ false) }
     ensures { result ≡ reads.woken (reads.valued_slots (members_of list.now)) (pending_of n s.now) }
 {
-    let mut sum: u64 = 0;
-    let mut at = 0;
-    while 85 <= list.len() - at {
-        sum += valued_at(s, n, list, at);
-        at += 85;
-    }
-    sum
+    list.chunks_exact(85)
+        .filter(|member| member[52] != 0)
+        .map(|member| waiters(s, n, entries::read_slot(member, 0)))
+        .sum()
 }
 
 // The number of refused members of a lent answer.
 pub fn refused_members(list: &[u8]) -> usize
     ensures { result ≡ length (reads.refused_slots (members_of list.now)) }
 {
-    let mut k = 0;
-    let mut at = 0;
-    while 85 <= list.len() - at {
-        if list[at + 52] == 0 {
-            k += 1;
-        }
-        at += 85;
-    }
-    k
+    list.chunks_exact(85)
+        .filter(|member| member[52] == 0)
+        .count()
 }
 
 // Takes the slots of a lent list out of the n awaiting ones; the number of awaiting slots then.
-pub fn remove_all(s: &mut [u8], n: usize, list: &[u8], stride: usize) -> usize
-    requires { Ready n s.old × (52 ≤ stride) }
-    ensures { Holds result s.new n (reads.remove_all_pending (entry_slots stride list.now) (pending_of n s.old)) s.old }
+pub fn remove_all<const STRIDE: usize>(s: &mut [u8], n: usize, list: &[u8]) -> usize
+    requires { Ready n s.old × (52 ≤ STRIDE) }
+    ensures { Holds result s.new n (reads.remove_all_pending (entry_slots STRIDE list.now) (pending_of n s.old)) s.old }
 {
     let mut k = n;
-    let mut at = 0;
-    while stride <= list.len() - at {
-        k = remove(s, k, entries::read_slot(list, at));
-        at += stride;
+    for entry in list.chunks_exact(STRIDE) {
+        k = remove(s, k, entries::read_slot(entry, 0));
     }
     k
 }

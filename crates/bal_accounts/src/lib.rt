@@ -8,11 +8,10 @@ ghost use Rattle.bal_accounts.specs.Accounts.{read_account};
 ghost use Rattle.bal_accounts.specs.Walking.{start, WalkFits, AccountsSeeded};
 
 use bal_entries::Spot;
-use bal_plan::Cap;
 use model::storage_memo::Address;
 
 // What is lent for an account: its address and its numbers of slots and reads.
-#[derive(Clone, Copy)]
+#[derive(Clone, Copy, Debug, PartialEq, Eq)]
 pub struct LentAccount {
     pub address: Address,
     pub slots: usize,
@@ -20,7 +19,7 @@ pub struct LentAccount {
 }
 
 // Where the walk over accounts stands: the next slot, change and read, and the entries found.
-#[derive(Clone, Copy)]
+#[derive(Clone, Copy, Debug, PartialEq, Eq, Default)]
 pub struct Walk {
     pub slot: usize,
     pub change: usize,
@@ -143,8 +142,8 @@ fn seed_account(
     changes: &[u8],
     reads: &[u8],
     plan_addresses: &[u8],
-    max_writes: Cap,
-    max_reads: Cap,
+    max_writes: Option<u64>,
+    max_reads: Option<u64>,
     w: Walk,
     writes_out: &mut [u8],
     reads_out: &mut [u8],
@@ -178,25 +177,16 @@ pub fn seed_from_accounts(
     changes: &[u8],
     reads: &[u8],
     plan_addresses: &[u8],
-    max_writes: Cap,
-    max_reads: Cap,
+    max_writes: Option<u64>,
+    max_reads: Option<u64>,
     writes_out: &mut [u8],
     reads_out: &mut [u8],
 ) -> Walk
     requires { WalkFits accounts.now slots.now changes.now reads.now 0 start × (length slots.now / 40 * 84 ≤ length writes_out.old) × (length reads.now / 32 * 52 ≤ length reads_out.old) }
     ensures { AccountsSeeded (plan_of plan_addresses.now max_writes max_reads) accounts.now slots.now changes.now reads.now (limit_of max_writes) (limit_of max_reads) 0 (length accounts.now / 36) start writes_out.old reads_out.old result writes_out.new reads_out.new }
 {
-    let n = accounts.len() / 36;
-    let mut w = Walk {
-        slot: 0,
-        change: 0,
-        read: 0,
-        writes: 0,
-        reads: 0,
-        filtered: 0,
-    };
-    let mut i = 0;
-    while i < n {
+    let mut w = Walk::default();
+    for i in 0..accounts.len() / 36 {
         w = seed_account(
             accounts,
             i,
@@ -210,7 +200,6 @@ pub fn seed_from_accounts(
             writes_out,
             reads_out,
         );
-        i += 1;
     }
     w
 }

@@ -1,8 +1,8 @@
 -- Filling an output with entries, some and then some more, and how many are found. Assumes nothing.
 use mathlib.Core.Path.{◌≡◌, refl, sym, ap, ap₂, ◌∙◌}
-use mathlib.Core.Bool.{Bool, true, false, cond}
+use mathlib.Core.Bool.{Bool, false, cond}
 use mathlib.Core.List.{List, [], ◌∷◌, ◌++◌}
-use Prim.Native.Nat.{ℕ, suc, ◌+◌, ◌*◌, ◌≤◌}
+use Prim.Native.Nat.{ℕ, suc, ◌+◌, ◌*◌}
 use native.Mathlib.Nat.{add-zero}
 use native.Mathlib.Omega.{arith}
 use lib.Dec.{ltb}
@@ -10,13 +10,7 @@ use lib.ListN.{length, take, drop}
 use lib.Seq.{take-add}
 use borrow.Author.Tests.{le-ltb}
 use Rattle.words.specs.Parts.{placed}
-use Rattle.words.proofs.Places.{placed_length}
 use Rattle.bal_entries.specs.Filling.{Filled, fill_one, fill}
-
--- An entry that may be put keeps the length.
-pub length_put : (t : Bool) (at : ℕ) (b s : List ℕ) → at + length b ≤ length s → length (cond t (placed at b s) s) ≡ length s
-length_put true at b s h = placed_length at b s h
-length_put false at b s h = refl
 
 pub fill_append : (w most : ℕ) (xs ys : List (List ℕ)) (f : Filled) → fill w most (xs ++ ys) f ≡ fill w most ys (fill w most xs f)
 unfolding fill

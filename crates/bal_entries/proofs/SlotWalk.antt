@@ -1,8 +1,8 @@
 -- Walking slots: one slot, and one after another. Assumes nothing.
+use Rattle.std.specs.Prelude.{None, Option, Some}
 use mathlib.Core.Path.{◌≡◌, refl, sym, ap, subst, ◌∙◌}
 use mathlib.Core.Bool.{cond}
 use mathlib.Core.List.{List, [], ◌∷◌, ◌++◌, map, map-append}
-use mathlib.Core.Option.{Option, some, none}
 use Prim.Native.Nat.{ℕ, ◌+◌, ◌*◌, ◌/◌, ◌≤◌, ◌<◌}
 use native.Mathlib.Nat.{add-zero}
 use native.Mathlib.Numerals.{add-one}
@@ -13,12 +13,12 @@ use lib.Seq.{drop-drop}
 use Rattle.model.specs.declared.storage_memo.Address.{Address}
 use Rattle.model.specs.declared.storage_memo.U256.{U256}
 use Rattle.model.specs.Advance.{Write}
+use Rattle.model.specs.Entries.{number_at, u256_at}
 use Rattle.words.specs.Parts.{placed}
 use Rattle.entries.specs.Bytes.{write_bytes}
 use Rattle.entries.proofs.Lists.{entry_at}
-use Rattle.final_change.specs.declared.FinalValue.{FinalValue}
-use Rattle.final_change.specs.declared.FinalValue.TheVariants.{Changed, Unchanged}
-use Rattle.final_change.specs.Changes.{StorageChange, final_change, changes_in, value_in}
+use Rattle.entries.proofs.Numbers.{number_in, u256_first}
+use Rattle.final_change.specs.Changes.{StorageChange, final_change, changes_in}
 use Rattle.bal_entries.specs.declared.Spot.{Spot}
 use Rattle.bal_entries.specs.Listed.{SlotChanges, LentSlot, sum, group_slots, add_write, post_states, read_slot, slots_in}
 use Rattle.bal_entries.specs.Filling.{fill}
@@ -26,8 +26,8 @@ use Rattle.bal_entries.specs.Walking.{slots_left, ChangesLeft, SlotsSeeded}
 use Rattle.bal_entries.proofs.Filling.{fill_more}
 
 add_write_append : (a : Address) (i : U256) (o : Option U256) (vs ws : List Write) → add_write a i o (vs ++ ws) ≡ add_write a i o vs ++ ws
-add_write_append a i none vs ws = refl
-add_write_append a i (some v) vs ws = refl
+add_write_append a i None vs ws = refl
+add_write_append a i (Some v) vs ws = refl
 
 post_states_append : (a : Address) (xs ys : List SlotChanges) → post_states a (xs ++ ys) ≡ post_states a xs ++ post_states a ys
 unfolding post_states
@@ -81,7 +81,7 @@ module _ (a : Address) (slots changes : List ℕ) (most : ℕ) where
     left : slots_left slots changes p.slot p.change ≡ record { slot = here_slot.slot; changes = here_changes } ∷ slots_left slots changes (p.slot + 1) (p.change + here_slot.change_count)
     left = group_first here_slot (drop (p.slot + 1) (slots_in slots)) (drop p.slot (slots_in slots)) (changes_in changes) p.change first
 
-    pub changes_here : p.change + here_slot.change_count + sum (map (λ s. s.change_count) (drop (p.slot + 1) (slots_in slots))) ≡ length changes / 40
+    changes_here : p.change + here_slot.change_count + sum (map (λ s. s.change_count) (drop (p.slot + 1) (slots_in slots))) ≡ length changes / 40
     changes_here = omega (arith, h, sum_first here_slot (drop (p.slot + 1) (slots_in slots)) (drop p.slot (slots_in slots)) first)
 
     -- One slot walked, with a change or without.
@@ -101,29 +101,31 @@ module _ (a : Address) (slots changes : List ℕ) (most : ℕ) where
               ∙ ap (λ (x : List SlotChanges). fill 84 most (map write_bytes (post_states a (take 1 x))) (record { found = p.found; out = out })) (sym left);
         }
 
-    unchanged_seeded : (out : List ℕ) → final_change here_changes ≡ none → SlotsSeeded a slots changes most 1 p out (record { slot = p.slot + 1; change = p.change + here_slot.change_count; found = p.found }) out
-    unfolding fill
-    unchanged_seeded out e = one_seeded none p.found out out e (omega arith) refl
+    -- By the number of changes that the code has read.
+    module _ (n : ℕ) (read : n ≡ number_at (p.slot * 40 + 32) 8 slots) where
+      n_is : n ≡ here_slot.change_count
+      n_is = read ∙ number_in 32 (p.slot * 40) 8 slots
 
-    changed_seeded : (v : U256) (out out' : List ℕ) → final_change here_changes ≡ some v
-        → out' ≡ cond (ltb p.found most) (placed (p.found * 84) (write_bytes (record { slot = record { address = a; index = here_slot.slot }; value = v })) out) out
-        → SlotsSeeded a slots changes most 1 p out (record { slot = p.slot + 1; change = p.change + here_slot.change_count; found = p.found + 1 }) out'
-    unfolding fill
-    changed_seeded v out out' e f = one_seeded (some v) (p.found + 1) out out' e (omega arith) (ap (λ (x : List ℕ). record { found = p.found + 1; out = x }) f)
+      pub changes_fit : p.change + n ≤ length changes / 40
+      changes_fit = omega (arith, changes_here, n_is)
 
-    -- The same of what the code has read and found.
-    module _ (n : ℕ) (r : FinalValue) (en : n ≡ here_slot.change_count) (final : value_in r ≡ final_change (take n (drop p.change (changes_in changes)))) where
-      value : final_change here_changes ≡ value_in r
-      value = ap (λ (k : ℕ). final_change (take k (drop p.change (changes_in changes)))) (sym en) ∙ sym final
+      seeded : (o : Option U256) (k : ℕ) (out out' : List ℕ) → o ≡ final_change (take n (drop p.change (changes_in changes))) → k ≤ p.found + 1
+          → record { found = k; out = out' } ≡ fill 84 most (map write_bytes (add_write a here_slot.slot o [])) (record { found = p.found; out = out })
+          → SlotsSeeded a slots changes most 1 p out (record { slot = p.slot + 1; change = p.change + n; found = k }) out'
+      seeded o k out out' e few f =
+          subst (λ (m : ℕ). SlotsSeeded a slots changes most 1 p out (record { slot = p.slot + 1; change = p.change + m; found = k }) out') (sym n_is)
+          (one_seeded o k out out' (ap (λ (m : ℕ). final_change (take m (drop p.change (changes_in changes)))) (sym n_is) ∙ sym e) few f)
 
-      pub unchanged : (out : List ℕ) → r ≡ Unchanged → SlotsSeeded a slots changes most 1 p out (record { slot = p.slot + 1; change = p.change + n; found = p.found }) out
-      unchanged out e =
-          subst (λ (k : ℕ). SlotsSeeded a slots changes most 1 p out (record { slot = p.slot + 1; change = p.change + k; found = p.found }) out) (sym en)
-          (unchanged_seeded out (value ∙ ap value_in e))
+      pub unchanged : (out : List ℕ) → None ≡ final_change (take n (drop p.change (changes_in changes)))
+          → SlotsSeeded a slots changes most 1 p out (record { slot = p.slot + 1; change = p.change + n; found = p.found }) out
+      unfolding fill
+      unchanged out e = seeded None p.found out out e (omega arith) refl
 
-      pub changed : (v : U256) (out out' : List ℕ) → r ≡ Changed v
-          → out' ≡ cond (ltb p.found most) (placed (p.found * 84) (write_bytes (record { slot = record { address = a; index = here_slot.slot }; value = v })) out) out
+      pub changed : (v : U256) (out out' : List ℕ) → Some v ≡ final_change (take n (drop p.change (changes_in changes)))
+          → out' ≡ cond (ltb p.found most) (placed (p.found * 84) (write_bytes (record { slot = record { address = a; index = u256_at (p.slot * 40) slots }; value = v })) out) out
           → SlotsSeeded a slots changes most 1 p out (record { slot = p.slot + 1; change = p.change + n; found = p.found + 1 }) out'
+      unfolding fill
       changed v out out' e f =
-          subst (λ (k : ℕ). SlotsSeeded a slots changes most 1 p out (record { slot = p.slot + 1; change = p.change + k; found = p.found + 1 }) out') (sym en)
-          (changed_seeded v out out' (value ∙ ap value_in e) f)
+          seeded (Some v) (p.found + 1) out out' e (omega arith)
+          (ap (λ (x : List ℕ). record { found = p.found + 1; out = x })
+          (f ∙ ap (λ (x : U256). cond (ltb p.found most) (placed (p.found * 84) (write_bytes (record { slot = record { address = a; index = x }; value = v })) out) out) (u256_first (p.slot * 40) slots)))

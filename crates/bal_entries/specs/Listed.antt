@@ -1,6 +1,5 @@
 -- Listed slots with their changes, the writes that they give, and the bytes that slots and reads are lent in.
-use Rattle.std.specs.Prelude.{ℕ, ◌+◌, List, [], ◌∷◌, take, drop}
-use Rattle.std.proofs.Math.Option.{Option, some, none}
+use Rattle.std.specs.Prelude.{ℕ, ◌+◌, List, [], ◌∷◌, take, drop, None, Option, Some}
 use Rattle.model.specs.declared.storage_memo.Address.{Address}
 use Rattle.model.specs.declared.storage_memo.U256.{U256}
 use Rattle.model.specs.Advance.{Write}
@@ -30,8 +29,8 @@ group_slots (s ∷ ss) cs = record { slot = s.slot; changes = take s.change_coun
 
 -- An account's changed slots (`storage_post_states`): each listed slot that has a change, in list order.
 abbrev pub add_write : Address → U256 → Option U256 → List Write → List Write
-add_write a i none ws = ws
-add_write a i (some v) ws = record { slot = record { address = a; index = i }; value = v } ∷ ws
+add_write a i None ws = ws
+add_write a i (Some v) ws = record { slot = record { address = a; index = i }; value = v } ∷ ws
 
 unfoldable pub post_states : Address → List SlotChanges → List Write
 post_states a [] = []

@@ -4,12 +4,11 @@
 ghost use Rattle.std.specs.Prelude.{◌+◌, ◌*◌, ◌/◌, ◌≤◌, length};
 ghost use Rattle.bal_entries.specs.Walking.{SlotsRoom, SlotsSeeded, ReadsSeeded};
 
-use final_change::FinalValue;
 use model::delta_snapshot::Slot;
 use model::storage_memo::Address;
 
 // Where the walk over listed slots stands: the next slot, its first change, and the changed slots found.
-#[derive(Clone, Copy)]
+#[derive(Clone, Copy, Debug, PartialEq, Eq)]
 pub struct Spot {
     pub slot: usize,
     pub change: usize,
@@ -32,7 +31,7 @@ fn seed_slot(
     let change = from.change;
     let found = from.found;
     let count = words::read_u64(slots, slot * 40 + 32) as usize;
-    let FinalValue::Changed(value) = final_change::final_change(changes, change, count) else {
+    let Some(value) = final_change::final_change(changes, change, count) else {
         return Spot {
             slot: slot + 1,
             change: change + count,
@@ -65,10 +64,8 @@ pub fn seed_slots(
     ensures { SlotsSeeded address slots.now changes.now most count from out.old result out.new }
 {
     let mut spot = from;
-    let mut i = 0;
-    while i < count {
+    for _ in 0..count {
         spot = seed_slot(address, slots, changes, most, spot, out);
-        i += 1;
     }
     spot
 }
@@ -86,13 +83,11 @@ pub fn seed_reads(
     requires { (from + count ≤ length reads.now / 32) × (found ≤ from) × (length reads.now / 32 * 52 ≤ length out.old) }
     ensures { ReadsSeeded address reads.now most from count found out.old out.new }
 {
-    let mut i = 0;
-    while i < count {
+    for i in 0..count {
         if found + i < most {
             let index = entries::read_u256(reads, (from + i) * 32);
             let read = Slot { address, index };
             entries::write_slot(out, (found + i) * 52, read);
         }
-        i += 1;
     }
 }

@@ -1,4 +1,5 @@
 -- The entries within a cap, by the largest number that it lets through. Assumes nothing.
+use Rattle.std.specs.Prelude.{None, Option, Some}
 use mathlib.Core.Path.{◌≡◌, ap, ◌∙◌}
 use mathlib.Core.Bool.{Bool, cond}
 use Prim.Native.Nat.{ℕ, ◌≤◌, min}
@@ -6,13 +7,11 @@ use native.Mathlib.Omega.{arith}
 use lib.Dec.{ltb}
 use borrow.Author.Tests.{ltb-true, ltb-false}
 use Rattle.model.proofs.SlotLaws.{split}
-use Rattle.bal_plan.specs.declared.Cap.{Cap}
-use Rattle.bal_plan.specs.declared.Cap.TheVariants.{Unlimited, AtMost}
-use Rattle.bal_plan.specs.Plan.{within_cap, cap_of, limit_of}
+use Rattle.bal_plan.specs.Plan.{within_cap, limit_of}
 
-pub within_is : (c : Cap) (n : ℕ) → n ≤ 18446744073709551615 → within_cap (cap_of c) n ≡ min n (limit_of c)
-within_is Unlimited n h = omega arith
-within_is (AtMost k) n h =
+pub within_is : (c : Option ℕ) (n : ℕ) → n ≤ 18446744073709551615 → within_cap c n ≡ min n (limit_of c)
+within_is None n h = omega arith
+within_is (Some k) n h =
     split (ltb k n)
     (λ e. ap (λ (t : Bool). cond t k n) e ∙ omega (arith, ltb-true k n e))
     (λ e. ap (λ (t : Bool). cond t k n) e ∙ omega (arith, ltb-false k n e))

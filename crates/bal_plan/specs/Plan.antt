@@ -1,12 +1,9 @@
 -- The plan of final writes: the accounts that it admits, its caps, and the bytes and caps that give it.
-use Rattle.std.specs.Prelude.{ℕ, Bool, true, cond, List, [], ◌∷◌, ltb}
-use Rattle.std.proofs.Math.Option.{Option, some, none}
+use Rattle.std.specs.Prelude.{ℕ, Bool, true, cond, List, [], ◌∷◌, ltb, None, Option, Some}
 use Rattle.model.specs.declared.storage_memo.Address.{Address}
 use Rattle.model.specs.Advance.{relevant}
 use Rattle.model.specs.Entries.{address_of}
 use Rattle.entries.specs.Lists.{all_entries}
-use Rattle.bal_plan.specs.declared.Cap.{Cap}
-use Rattle.bal_plan.specs.declared.Cap.TheVariants.{Unlimited, AtMost}
 
 -- The plan (`BalPlan`): the addresses that it names, and a cap on writes and on reads or none. No address admits every account.
 pub record BalPlan : Type 0 where
@@ -21,22 +18,18 @@ admits_from (b ∷ bs) a = relevant (b ∷ bs) a
 
 -- The number of entries within a cap.
 abbrev pub within_cap : Option ℕ → ℕ → ℕ
-within_cap none n = n
-within_cap (some c) n = cond (ltb c n) c n
+within_cap None n = n
+within_cap (Some c) n = cond (ltb c n) c n
 
--- The addresses of a lent list, 20 bytes each; the cap that a value of the code is; the plan that a list and two caps give.
+-- The addresses of a lent list, 20 bytes each; the plan that a list and two caps give.
 abbrev pub addresses_in : List ℕ → List Address
 addresses_in b = all_entries address_of 20 b
 
-abbrev pub cap_of : Cap → Option ℕ
-cap_of Unlimited = none
-cap_of (AtMost n) = some n
-
-abbrev pub plan_of : List ℕ → Cap → Cap → BalPlan
+abbrev pub plan_of : List ℕ → Option ℕ → Option ℕ → BalPlan
 plan_of addresses max_writes max_reads =
-    record { addresses = addresses_in addresses; max_write_seeds = cap_of max_writes; max_read_prefetches = cap_of max_reads }
+    record { addresses = addresses_in addresses; max_write_seeds = max_writes; max_read_prefetches = max_reads }
 
 -- The largest number of entries that a cap lets through: no list has as many as 2^64 − 1.
-abbrev pub limit_of : Cap → ℕ
-limit_of Unlimited = 18446744073709551615
-limit_of (AtMost n) = n
+abbrev pub limit_of : Option ℕ → ℕ
+limit_of None = 18446744073709551615
+limit_of (Some n) = n

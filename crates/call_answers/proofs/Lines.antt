@@ -1,4 +1,5 @@
 -- The lines of an answer are those of the model's answer, and how long they are. Assumes nothing.
+use Rattle.std.specs.Prelude.{Ok, Err}
 use Prim.Native.Nat.{ℕ, ◌+◌, ◌*◌, ◌≤◌}
 use mathlib.Core.Path.{◌≡◌, refl, sym, ap}
 use mathlib.Core.List.{List, [], ◌∷◌, ◌++◌}
@@ -10,11 +11,9 @@ use Rattle.model.specs.Store.{Report, opened, anchor_same, anchor_fresh, advance
 use Rattle.model.specs.Refusals.{Answer, refuse, ok}
 use Rattle.model.proofs.EntryLaws.{SlotFits, Each, slots_back}
 use Rattle.image.specs.Output.{output_after}
-use Rattle.replies.specs.declared.AdvanceReply.{AdvanceReply}
-use Rattle.replies.specs.declared.AdvanceReply.TheVariants as advance
+use Rattle.replies.specs.Replies.{AdvanceReply}
 use Rattle.replies.specs.Replies.{advance_reply, take_reply}
-use Rattle.replies.specs.declared.TakeReply.{TakeReply}
-use Rattle.replies.specs.declared.TakeReply.TheVariants as take
+use Rattle.replies.specs.Replies.{TakeReply}
 use Rattle.call_list.specs.Listing.{ascii, line, decimals, slot_lines, answer_lines}
 use Rattle.listing.proofs.Lengths.{delta_line_counts, refusal_line_length, counts_line_length, take_line_length, report_lines_length}
 use Rattle.call_answers.specs.declared.CallAnswer.{CallAnswer}
@@ -95,11 +94,11 @@ lines_length (Answered m e w) b = report_lines_length (answered m e w)
 -- A take's and an advance's answer, from what they mean ----------------------------------------------------
 
 pub take_means : (t : TakeReply) (out : List ℕ) → take_as t ≡ call_answer (take_reply t out)
-take_means (take.Refused n) out = refl
-take_means (take.Listed n) out = ap Take (sym (length_first n out))
+take_means (Err e) out = refl
+take_means (Ok n) out = ap Take (sym (length_first n out))
 
 pub advance_means : (t : AdvanceReply) (out : List ℕ) → advance_as t ≡ call_answer (advance_reply t out)
-advance_means (advance.Refused n) out = refl
-advance_means (advance.Advanced r) out =
+advance_means (Err e) out = refl
+advance_means (Ok r) out =
     let n = length_first r.writes.applied out in
     λ i. Advance (record { outcome = r.outcome; writes = record { applied = sym n i; overwritten = r.writes.overwritten; skipped = r.writes.skipped }; held = r.held; live = r.live; compaction = r.compaction })

@@ -1,15 +1,13 @@
 -- The code's answer of a call of any kind, and its lines.
-use Rattle.std.specs.Prelude.{ℕ, List, [], ◌∷◌, ◌++◌, length}
+use Rattle.std.specs.Prelude.{ℕ, List, [], ◌∷◌, ◌++◌, length, Ok, Err}
 use Rattle.model.specs.Advance as model
 use Rattle.model.specs.Entries.{first_slots}
 use Rattle.model.specs.Store.{Report, opened, anchor_same, anchor_fresh, advanced, value, no_value, stored, waiting, listed, answered}
-use Rattle.model.specs.Refusals.{Answer, refuse, ok}
+use Rattle.model.specs.Refusals.{Answer, refuse, ok, refusal_number}
 use Rattle.replies.specs.declared.DeltaReport.{DeltaReport}
-use Rattle.replies.specs.declared.AdvanceReply.{AdvanceReply}
-use Rattle.replies.specs.declared.AdvanceReply.TheVariants as advance
+use Rattle.replies.specs.Replies.{AdvanceReply}
 use Rattle.replies.specs.declared.WriteCounts.{WriteCounts}
-use Rattle.replies.specs.declared.TakeReply.{TakeReply}
-use Rattle.replies.specs.declared.TakeReply.TheVariants as take
+use Rattle.replies.specs.Replies.{TakeReply}
 use Rattle.listing.specs.declared.AdvanceCounts.{AdvanceCounts}
 use Rattle.listing.specs.Lines.{counts_line}
 use Rattle.call_list.specs.Listing.{ascii, line, decimals, slot_lines, refusal_line, report_lines}
@@ -43,12 +41,12 @@ call_answer (ok r) = call_report r
 
 -- The same answer of a take, and of an advance.
 abbrev pub take_as : TakeReply → CallAnswer
-take_as (take.Refused n) = Refused n
-take_as (take.Listed n) = Take n
+take_as (Err e) = Refused (refusal_number e)
+take_as (Ok n) = Take n
 
 abbrev pub advance_as : AdvanceReply → CallAnswer
-advance_as (advance.Refused n) = Refused n
-advance_as (advance.Advanced r) = Advance r
+advance_as (Err e) = Refused (refusal_number e)
+advance_as (Ok r) = Advance r
 
 -- The counts of an advance's report, as its line has them.
 abbrev pub counts_in : DeltaReport → AdvanceCounts

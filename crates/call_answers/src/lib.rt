@@ -12,12 +12,12 @@ ghost use Rattle.call_answers.specs.Answers.{call_answer, take_as, advance_as, c
 use listing::AdvanceCounts;
 use model::storage_memo::U256;
 use replies::{
-    AdvanceReply, AnswerReply, DeltaReport, InstallReply, LookReply, OpenReply, PutReply,
-    ReadReply, TakeReply,
+    AdvanceReply, AnswerReply, Answered, DeltaReport, InstallReply, Installed, LookReply,
+    OpenReply, PutReply, ReadOutcome, ReadReply, TakeReply,
 };
 
 // A call's answer: a refusal's number, or what it reports. The slots that a take lists are in its output.
-#[derive(Clone, Copy)]
+#[derive(Clone, Copy, Debug, PartialEq, Eq)]
 pub enum CallAnswer {
     Refused(u64),
     Open,
@@ -41,8 +41,8 @@ pub fn of_open(a: OpenReply) -> CallAnswer
     ensures { result ≡ call_answer (open_reply a) }
 {
     match a {
-        OpenReply::Refused(n) => CallAnswer::Refused(n),
-        OpenReply::Opened => CallAnswer::Open,
+        Err(refusal) => CallAnswer::Refused(refusal.number()),
+        Ok(()) => CallAnswer::Open,
     }
 }
 
@@ -51,9 +51,9 @@ pub fn of_install(a: InstallReply) -> CallAnswer
     ensures { result ≡ call_answer (install_reply a) }
 {
     match a {
-        InstallReply::Refused(n) => CallAnswer::Refused(n),
-        InstallReply::Same => CallAnswer::AnchorSame,
-        InstallReply::Fresh => CallAnswer::AnchorFresh,
+        Err(refusal) => CallAnswer::Refused(refusal.number()),
+        Ok(Installed::Same) => CallAnswer::AnchorSame,
+        Ok(Installed::Fresh) => CallAnswer::AnchorFresh,
     }
 }
 
@@ -62,9 +62,9 @@ pub fn of_look(a: LookReply) -> CallAnswer
     ensures { result ≡ call_answer (look_reply a) }
 {
     match a {
-        LookReply::Refused(n) => CallAnswer::Refused(n),
-        LookReply::Nothing => CallAnswer::Nothing,
-        LookReply::Value(v) => CallAnswer::Value(v),
+        Err(refusal) => CallAnswer::Refused(refusal.number()),
+        Ok(None) => CallAnswer::Nothing,
+        Ok(Some(v)) => CallAnswer::Value(v),
     }
 }
 
@@ -73,8 +73,8 @@ pub fn of_put(a: PutReply) -> CallAnswer
     ensures { result ≡ call_answer (put_reply a) }
 {
     match a {
-        PutReply::Refused(n) => CallAnswer::Refused(n),
-        PutReply::Stored => CallAnswer::Put,
+        Err(refusal) => CallAnswer::Refused(refusal.number()),
+        Ok(()) => CallAnswer::Put,
     }
 }
 
@@ -83,9 +83,9 @@ pub fn of_read(a: ReadReply) -> CallAnswer
     ensures { result ≡ call_answer (read_reply a) }
 {
     match a {
-        ReadReply::Refused(n) => CallAnswer::Refused(n),
-        ReadReply::Value(v) => CallAnswer::Value(v),
-        ReadReply::Waiting(n) => CallAnswer::Wait(n),
+        Err(refusal) => CallAnswer::Refused(refusal.number()),
+        Ok(ReadOutcome::Value(v)) => CallAnswer::Value(v),
+        Ok(ReadOutcome::Waiting(n)) => CallAnswer::Wait(n),
     }
 }
 
@@ -94,8 +94,8 @@ pub fn of_take(a: TakeReply) -> CallAnswer
     ensures { result ≡ take_as a }
 {
     match a {
-        TakeReply::Refused(n) => CallAnswer::Refused(n),
-        TakeReply::Listed(n) => CallAnswer::Take(n as usize),
+        Err(refusal) => CallAnswer::Refused(refusal.number()),
+        Ok(n) => CallAnswer::Take(n as usize),
     }
 }
 
@@ -104,12 +104,14 @@ pub fn of_answer(a: AnswerReply) -> CallAnswer
     ensures { result ≡ call_answer (answer_reply a) }
 {
     match a {
-        AnswerReply::Refused(n) => CallAnswer::Refused(n),
-        AnswerReply::Answered {
-            members,
-            errors,
-            woken,
-        } => CallAnswer::Answer {
+        Err(refusal) => CallAnswer::Refused(refusal.number()),
+        Ok(
+            Answered {
+                members,
+                errors,
+                woken,
+            },
+        ) => CallAnswer::Answer {
             members,
             errors,
             woken,
@@ -122,8 +124,8 @@ pub fn of_advance(a: AdvanceReply) -> CallAnswer
     ensures { result ≡ advance_as a }
 {
     match a {
-        AdvanceReply::Refused(n) => CallAnswer::Refused(n),
-        AdvanceReply::Advanced(report) => CallAnswer::Advance(report),
+        Err(refusal) => CallAnswer::Refused(refusal.number()),
+        Ok(report) => CallAnswer::Advance(report),
     }
 }
 
@@ -133,10 +135,8 @@ fn slot_lines(out: &mut [u8], at: usize, entries: &[u8], n: usize) -> usize
     ensures { Written at (slot_lines (first_slots n entries.now)) out.old out.new result }
 {
     let mut next = at;
-    let mut i = 0;
-    while i < n {
+    for i in 0..n {
         next = listing::slot_line(out, next, reader::slot_at(entries, i * 52));
-        i += 1;
     }
     next
 }
@@ -146,7 +146,7 @@ fn take_lines(out: &mut [u8], at: usize, entries: &[u8], n: usize) -> usize
     requires { (n * 52 ≤ length entries.now) × (at + 26 + 110 * n ≤ length out.old) }
     ensures { Written at (take_lines n entries.now) out.old out.new result }
 {
-    let next = listing::take_line(out, at, n as u64);
+    let next = listing::word_line(out, at, b"take", &[n as u64]);
     slot_lines(out, next, entries, n)
 }
 
@@ -178,19 +178,19 @@ pub fn answer_lines(out: &mut [u8], at: usize, a: CallAnswer, entries: &[u8]) ->
 {
     match a {
         CallAnswer::Refused(n) => listing::refusal_line(out, at, n),
-        CallAnswer::Open => listing::open_line(out, at),
-        CallAnswer::AnchorSame => listing::anchor_same_line(out, at),
-        CallAnswer::AnchorFresh => listing::anchor_fresh_line(out, at),
+        CallAnswer::Open => listing::word_line(out, at, b"open", &[]),
+        CallAnswer::AnchorSame => listing::word_line(out, at, b"anchor same", &[]),
+        CallAnswer::AnchorFresh => listing::word_line(out, at, b"anchor fresh", &[]),
         CallAnswer::Advance(report) => advance_line(out, at, report),
         CallAnswer::Value(v) => listing::value_line(out, at, v),
-        CallAnswer::Nothing => listing::none_line(out, at),
-        CallAnswer::Put => listing::put_line(out, at),
-        CallAnswer::Wait(n) => listing::wait_line(out, at, n),
+        CallAnswer::Nothing => listing::word_line(out, at, b"none", &[]),
+        CallAnswer::Put => listing::word_line(out, at, b"put", &[]),
+        CallAnswer::Wait(n) => listing::word_line(out, at, b"wait", &[n]),
         CallAnswer::Take(n) => take_lines(out, at, entries, n),
         CallAnswer::Answer {
             members,
             errors,
             woken,
-        } => listing::answer_line(out, at, members, errors, woken),
+        } => listing::word_line(out, at, b"answer", &[members, errors, woken]),
     }
 }

@@ -1,8 +1,8 @@
 -- The calls of a list, one by one, and that all of them fit. Assumes nothing.
+use Rattle.std.specs.Prelude.{Some}
 use mathlib.Core.Path.{◌≡◌, refl, sym, ap, ◌∙◌}
 use mathlib.Core.Bool.{Bool, true, ◌&&◌}
 use mathlib.Core.List.{List, [], ◌∷◌}
-use mathlib.Core.Option.{some}
 use Prim.Native.Nat.{ℕ, zero, suc, ◌≤◌, ◌<◌}
 use native.Mathlib.Omega.{arith}
 use lib.ListN.{length}
@@ -54,7 +54,7 @@ call_list_next (x ∷ l) c r b e =
     let o : ReadOn c r (x ∷ l) = parsed_call (x ∷ l) c r b e in
     ap (λ p. after_parse p (parse_calls (length l))) e ∙ ap (add_call c) (enough (length l) (length r) r o.bytes (omega arith) (omega arith))
 
-pub call_list_fault : (l : List ℕ) (n : ℕ) (r : List ℕ) → 0 < length l → parse_call l ≡ fault n r → call_list l ≡ record { calls = []; ends_with = some n }
+pub call_list_fault : (l : List ℕ) (n : ℕ) (r : List ℕ) → 0 < length l → parse_call l ≡ fault n r → call_list l ≡ record { calls = []; ends_with = Some n }
 unfolding call_list parse_calls
 call_list_fault [] n r h e = absurd (omega arith)
 call_list_fault (x ∷ l) n r h e = ap (λ p. after_parse p (parse_calls (length l))) e

@@ -1,8 +1,8 @@
 -- The calls of a list on lent bytes: they fit, so that their answers are those of the calls on states, and so is their listing. Assumes nothing.
+use Rattle.std.specs.Prelude.{Some}
 use mathlib.Core.Path.{◌≡◌, refl, sym, ap, ◌∙◌}
 use mathlib.Core.Bool.{Bool, true, ◌&&◌}
 use mathlib.Core.List.{List, [], ◌∷◌, ◌++◌, map, map-map, append_assoc, append-nil}
-use mathlib.Core.Option.{some}
 use Prim.Native.Nat.{ℕ}
 use lib.ListN.{length}
 use Rattle.model.specs.Numbers.{Bytes}
@@ -59,7 +59,7 @@ module _ (d : OpenLimits) (w e : ℕ) (b : List ℕ) where
   unfolding bytes_listing bytes_trace answers_lines
   listing_end = refl
 
-  pub listing_fault : (n : ℕ) → bytes_listing d w e b (record { calls = []; ends_with = some n }) ≡ refusal_line n
+  pub listing_fault : (n : ℕ) → bytes_listing d w e b (record { calls = []; ends_with = Some n }) ≡ refusal_line n
   unfolding bytes_listing bytes_trace answers_lines
   listing_fault n = refl
 

@@ -1,8 +1,8 @@
 -- What reading a call leaves: fewer bytes, and a call whose arguments fit. Assumes nothing.
+use Rattle.std.specs.Prelude.{Some}
 use mathlib.Core.Path.{◌≡◌, refl, subst}
 use mathlib.Core.Bool.{Bool, true, false, cond, ◌&&◌}
 use mathlib.Core.List.{List, [], ◌∷◌}
-use mathlib.Core.Option.{some}
 use Prim.Native.Nat.{ℕ, zero, suc, ◌+◌, ◌-◌, ◌*◌, ◌^◌, ◌≤◌, ◌<◌}
 use native.Mathlib.Nat.{pow-suc, one-le-pow, mul-le-mul_left}
 use native.Mathlib.Omega.{arith}
@@ -146,7 +146,7 @@ good_write = good_map write_of (good_bytes 84) (λ b f. and_intro _ _ (slot_of_f
 
 good_outcome : (f : Bool) → Good (λ o. value_fits o ≡ true) (parse_outcome f)
 good_outcome false = good_done refl
-good_outcome true = good_map some good_u256 (λ v q. q)
+good_outcome true = good_map Some good_u256 (λ v q. q)
 
 abbrev member_fits : Member → Bool
 member_fits m = slot_fits m.slot && value_fits m.outcome

@@ -1,6 +1,5 @@
 -- Call lists: numbers, calls, and refusals 3, 4 and 5.
-use Rattle.std.specs.Prelude.{ℕ, zero, suc, ◌+◌, ◌-◌, ◌*◌, Bool, true, false, ◌&&◌, cond, List, [], ◌∷◌, eqb, leb, ltb, length, take, drop}
-use Rattle.std.proofs.Math.Option.{Option, some, none}
+use Rattle.std.specs.Prelude.{ℕ, zero, suc, ◌+◌, ◌-◌, ◌*◌, Bool, true, false, ◌&&◌, cond, List, [], ◌∷◌, eqb, leb, ltb, length, take, drop, None, Option, Some}
 use Rattle.model.specs.declared.storage_memo.Address.{Address}
 use Rattle.model.specs.declared.storage_memo.U256.{U256}
 use Rattle.model.specs.declared.storage_memo.ReadAnchor.{ReadAnchor}
@@ -71,8 +70,8 @@ parse_write l = then (parse_bytes 84 l) (λ b r. parsed (write_of b) r)
 
 -- A member of an answer: a slot, then 1 and its value, or 0.
 abbrev pub parse_outcome : Bool → List ℕ → Parsed (Option U256)
-parse_outcome false l = parsed none l
-parse_outcome true l = then (parse_u256 l) (λ v r. parsed (some v) r)
+parse_outcome false l = parsed None l
+parse_outcome true l = then (parse_u256 l) (λ v r. parsed (Some v) r)
 
 abbrev pub parse_member : List ℕ → Parsed Member
 parse_member l = then (parse_slot l) (λ s r. then (parse_form r) (λ f q. then (parse_outcome f q) (λ o p. parsed (record { slot = s; outcome = o }) p)))
@@ -179,11 +178,11 @@ add_call c r = record { calls = c ∷ r.calls; ends_with = r.ends_with }
 
 -- The calls of a list of bytes: one after the other until the bytes end or a call is refused. A call has at least one byte, so that k bytes have at most k calls.
 abbrev pub no_more_calls : CallList
-no_more_calls = record { calls = []; ends_with = none }
+no_more_calls = record { calls = []; ends_with = None }
 
 abbrev pub after_parse : Parsed ListedCall → (List ℕ → CallList) → CallList
 after_parse (parsed c l) f = add_call c (f l)
-after_parse (fault n r) f = record { calls = []; ends_with = some n }
+after_parse (fault n r) f = record { calls = []; ends_with = Some n }
 
 abbrev pub next_call : List ℕ → (List ℕ → CallList) → CallList
 next_call [] f = no_more_calls

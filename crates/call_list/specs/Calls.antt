@@ -1,6 +1,5 @@
 -- The run of a whole call list, as the program `calls` makes it.
-use Rattle.std.specs.Prelude.{ℕ, List, ◌++◌, map, take}
-use Rattle.std.proofs.Math.Option.{none}
+use Rattle.std.specs.Prelude.{ℕ, List, ◌++◌, map, take, None}
 use Rattle.model.specs.Store.{Memory}
 use Rattle.model.specs.Refusals.{Lent, LentCall, store_size, work_size, trace}
 use Rattle.call_list.specs.Listed.{OpenLimits, ListedCall}
@@ -22,4 +21,4 @@ listing d m l = answers_lines (trace m (lent_calls d l.calls)) ++ end_line l.end
 
 -- What `calls` prints: the first 65,536 bytes are the list, and the store's bytes are all 0 before an open, which are no store.
 unfoldable pub calls_output : List ℕ → List ℕ
-calls_output input = listing default_limits none (call_list (take 65536 input))
+calls_output input = listing default_limits None (call_list (take 65536 input))

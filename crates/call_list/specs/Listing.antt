@@ -1,8 +1,7 @@
 -- The listing: what is printed for each call, as bytes.
-use Rattle.std.specs.Prelude.{ℕ, zero, suc, ◌+◌, ◌/◌, ◌%◌, cond, List, [], ◌∷◌, ◌++◌, ltb, length}
+use Rattle.std.specs.Prelude.{ℕ, zero, suc, ◌+◌, ◌/◌, ◌%◌, cond, List, [], ◌∷◌, ◌++◌, ltb, length, None, Option, Some}
 use Prim.Native.String.{String}
 use Prim.Native.Char.{code}
-use Rattle.std.proofs.Math.Option.{Option, some, none}
 use Rattle.model.specs.declared.storage_memo.U256.{U256}
 use Rattle.model.specs.declared.delta_snapshot.Slot.{Slot}
 use Rattle.model.specs.declared.read_hub.CarryOutcome.{CarryOutcome}
@@ -98,5 +97,5 @@ answers_lines (a ∷ l) = answer_lines a ++ answers_lines l
 
 -- The refusal that ends a list, if one does.
 abbrev pub end_line : Option ℕ → List ℕ
-end_line none = []
-end_line (some n) = refusal_line n
+end_line None = []
+end_line (Some n) = refusal_line n

@@ -1,7 +1,7 @@
 // Prints the listing of a call list, on a store of 256 records that starts as zeros.
 #![tactic(auto)]
 
-ghost use Rattle.std.specs.Prelude.{◌≡◌, false, ◌/◌, ◌≤◌, length, take, IfOk};
+ghost use Rattle.std.specs.Prelude.{◌≡◌, false, ◌/◌, ◌≤◌, length, IfOk};
 ghost use Rattle.call_run.specs.Run.{too_short};
 ghost use Rattle.call_print.specs.Part.{PartAs};
 
@@ -13,12 +13,11 @@ use std::io::{Read, Write};
 // The bytes of a store of 256 records.
 const STORE_SIZE: usize = layout::RECORDS_OFFSET + 256 * layout::RECORD_SIZE;
 
-// A part of a listing: where the next part begins, the bytes to write, and whether it is the last one.
-#[derive(Clone, Copy)]
+// A part of a listing: where the next part begins, if one follows, and the bytes to write.
+#[derive(Clone, Copy, Debug, PartialEq, Eq)]
 struct Part {
-    next: usize,
+    next: Option<usize>,
     written: usize,
-    last: bool,
 }
 
 // Runs a list from a place on, for one part of the listing.
@@ -36,27 +35,24 @@ fn run_part(
 {
     match call_run::run(list, Cursor { at: from }, s, work, entries, members, out) {
         RunReply::Refused(_) => Part {
-            next: from,
+            next: None,
             written: 0,
-            last: true,
         },
         RunReply::Listed {
             next,
             written,
             ended,
-        } => Part {
-            next: next.at,
-            written,
-            last: ended,
-        },
+        } => {
+            let next = if ended { None } else { Some(next.at) };
+            Part { next, written }
+        }
         RunReply::Broken {
             fault: _,
             place: _,
             written,
         } => Part {
-            next: from,
+            next: None,
             written,
-            last: true,
         },
     }
 }
@@ -70,40 +66,27 @@ fn print_parts<W: Write>(to: &mut W, list: &[u8]) -> io::Result<()>
     let mut entries = [0u8; 53248];
     let mut members = [0u8; 105060];
     let mut out = [0u8; 65536];
-    let mut next: usize = 0;
-    let mut ended = false;
-    while !ended {
+    let mut next = Some(0);
+    while let Some(from) = next {
         let part = run_part(
             list,
-            next,
+            from,
             &mut s,
             &mut work,
             &mut entries,
             &mut members,
             &mut out,
         );
-        let written = part.written;
-        to.write_all(&out[0..written])?;
+        to.write_all(&out[..part.written])?;
         next = part.next;
-        ended = part.last;
     }
     Ok(())
 }
 
-// The bytes of a list that are taken: the first 65,536.
-fn taken(list: &[u8]) -> usize
-    ensures { result ≡ length (take 65536 list.now) }
-{
-    if list.len() < 65536 {
-        return list.len();
-    }
-    65536
-}
-
 // Writes the listing of a list's first 65,536 bytes to a writer. What follows them is not read.
 pub fn print_listing<W: Write>(to: &mut W, list: &[u8]) -> io::Result<()> {
-    let n = taken(list);
-    print_parts(to, &list[0..n])
+    let taken = list.len().min(65536);
+    print_parts(to, &list[..taken])
 }
 
 // Reads until the buffer is full or the input ends; how many bytes it got.

@@ -1,5 +1,6 @@
 -- Where a run of a call list is after a call and after a fault, and whether it goes on.
-use Rattle.std.specs.Prelude.{ℕ, ◌-◌, Bool, true, false, not, ◌&&◌, List, leb, length}
+use Rattle.std.specs.Prelude.{ℕ, ◌-◌, Bool, true, not, ◌&&◌, List, leb, length, Some, None}
+use Rattle.reader.specs.declared.Fault.{Fault}
 use Rattle.call_answers.specs.declared.CallAnswer.{CallAnswer}
 use Rattle.call_answers.specs.declared.CallAnswer.TheVariants.{Refused, Open, AnchorSame, AnchorFresh, Advance, Value, Nothing, Put, Wait, Take, Answer}
 use Rattle.call_progress.specs.declared.Progress.{Progress}
@@ -25,11 +26,11 @@ store_after known (Answer m e w) = known
 -- After a call: its answer, the place of the next call, and that of the next line.
 abbrev pub called_at : List ℕ → Progress → CallAnswer → ℕ → ℕ → Progress
 called_at list t a next at =
-    record { next = next; at = at; known = store_after t.known a; ended = leb (length list) next; broken = false; fault = 0; place = 0 }
+    record { next = next; at = at; known = store_after t.known a; ended = leb (length list) next; fault = None }
 
--- After a fault, which ends the list: its number, its place, and that of the next line.
-abbrev pub broken_at : List ℕ → Progress → ℕ → ℕ → ℕ → Progress
-broken_at list t n place at = record { next = length list; at = at; known = t.known; ended = true; broken = true; fault = n; place = place }
+-- After a fault, which ends the list, and the place of the next line.
+abbrev pub broken_at : List ℕ → Progress → Fault → ℕ → Progress
+broken_at list t f at = record { next = length list; at = at; known = t.known; ended = true; fault = Some f }
 
 -- A run goes on where the list has not ended and the output has room for the lines of another call.
 abbrev pub goes_on : Progress → List ℕ → Bool

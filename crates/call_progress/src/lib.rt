@@ -5,21 +5,19 @@ ghost use Rattle.std.specs.Prelude.{◌≡◌, ◌≤◌, length};
 ghost use Rattle.call_progress.specs.Progress.{store_after, called_at, broken_at, goes_on};
 
 use call_answers::CallAnswer;
-use reader::Cursor;
+use reader::{Cursor, Fault};
 
 // The room for a call's lines: 197 bytes, and 110 for each of the 64 slots that a take lists at most.
 pub const CALL_LINES: usize = 7237;
 
-// Where a run is: the next call's place in the list, the next line's in the output, whether the bytes are a store, whether the list has ended, whether a fault ended it, and that fault and its place.
+// Where a run is: the next call's place in the list, the next line's in the output, whether the bytes are a store, whether the list has ended, and the fault that ended it, if one did.
 #[derive(Clone, Copy)]
 pub struct Progress {
     pub next: usize,
     pub at: usize,
     pub known: bool,
     pub ended: bool,
-    pub broken: bool,
-    pub fault: u64,
-    pub place: usize,
+    pub fault: Option<Fault>,
 }
 
 // Whether the bytes are a store after a call.
@@ -41,24 +39,20 @@ pub fn after_call(list: &[u8], t: Progress, a: CallAnswer, next: Cursor, at: usi
         at,
         known: known_after(t.known, a),
         ended: list.len() <= next.at,
-        broken: false,
-        fault: 0,
-        place: 0,
+        fault: None,
     }
 }
 
-// After a fault, which ends the list: its number and place, and the place of the next line.
-pub fn after_fault(list: &[u8], t: Progress, n: u64, place: Cursor, at: usize) -> Progress
-    ensures { result ≡ broken_at list.now t n place.at at }
+// After a fault, which ends the list, and the place of the next line.
+pub fn after_fault(list: &[u8], t: Progress, fault: Fault, at: usize) -> Progress
+    ensures { result ≡ broken_at list.now t fault at }
 {
     Progress {
         next: list.len(),
         at,
         known: t.known,
         ended: true,
-        broken: true,
-        fault: n,
-        place: place.at,
+        fault: Some(fault),
     }
 }
 
@@ -67,8 +61,5 @@ pub fn goes_on(t: Progress, out: &[u8]) -> bool
     requires { t.at ≤ length out.now }
     ensures { result ≡ goes_on t out.now }
 {
-    if t.ended {
-        return false;
-    }
-    CALL_LINES <= out.len() - t.at
+    !t.ended && CALL_LINES <= out.len() - t.at
 }

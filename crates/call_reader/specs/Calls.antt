@@ -1,10 +1,11 @@
 -- What the answers for calls stand for, given the list's bytes.
-use Rattle.std.specs.Prelude.{ℕ, ◌+◌, ◌*◌, ◌≤◌, ◌<◌, cond, List, eqb, length, drop}
-use Rattle.model.specs.declared.delta_snapshot.Slot.{Slot}
+use Rattle.std.specs.Prelude.{ℕ, ◌+◌, ◌*◌, ◌≤◌, ◌≡◌, List, ◌∷◌, length, Result, Ok, Err}
 use Rattle.model.specs.declared.delta_snapshot.Retention.{Retention}
 use Rattle.model.specs.Store as store
 use Rattle.call_list.specs.Listed as listed
-use Rattle.call_list.specs.CallList.{Parsed, parsed, fault, parse_with_slot, parse_put, parse_take, parse_answer}
+use Rattle.call_list.specs.CallList.{Parsed, fault, then, parse_form, parse_retention, parse_open, parse_install, parse_advance, parse_anchored, parse_with_slot, parse_put, parse_take, parse_answer, parse_call}
+use Rattle.reader.specs.declared.FaultKind.{FaultKind}
+use Rattle.reader.specs.declared.FaultKind.TheVariants.{Unknown}
 use Rattle.reader.specs.Answers.{addresses_at, writes_at, slots_at, members_at, MembersWithin}
 use Rattle.call_reader.specs.declared.SlotCall.{SlotCall}
 use Rattle.call_reader.specs.declared.SlotCall.TheVariants.{Look, Get, Put, Read}
@@ -13,14 +14,10 @@ use Rattle.call_reader.specs.declared.AnchoredCall.TheVariants.{OnSlot, Take, An
 use Rattle.call_reader.specs.declared.Prepared.{Prepared}
 use Rattle.call_reader.specs.declared.ListedCall.{ListedCall}
 use Rattle.call_reader.specs.declared.ListedCall.TheVariants.{OpenDefault, OpenWith, Install, Advance, Anchored}
-use Rattle.call_reader.specs.declared.RetentionRead.{RetentionRead}
-use Rattle.call_reader.specs.declared.RetentionRead.TheVariants as retention
-use Rattle.call_reader.specs.declared.PreparedRead.{PreparedRead}
-use Rattle.call_reader.specs.declared.PreparedRead.TheVariants as prepared
-use Rattle.call_reader.specs.declared.AnchoredRead.{AnchoredRead}
-use Rattle.call_reader.specs.declared.AnchoredRead.TheVariants as anchored
-use Rattle.call_reader.specs.declared.CallRead.{CallRead}
-use Rattle.call_reader.specs.declared.CallRead.TheVariants as call
+use Rattle.call_reader.specs.declared.AnchoredCode.{AnchoredCode}
+use Rattle.call_reader.specs.declared.AnchoredCode.TheVariants as rest
+use Rattle.call_reader.specs.declared.Code.{Code}
+use Rattle.call_reader.specs.declared.Code.TheVariants as code
 
 -- What was prepared, the call on a slot, the call at an anchor, and the call, that an answer stands for.
 abbrev pub prepared_of : List ℕ → Prepared → store.Prepared
@@ -45,50 +42,28 @@ call_of s (Install a) = listed.on_store (store.install a)
 call_of s (Advance a h p) = listed.on_store (store.advance a h (prepared_of s p))
 call_of s (Anchored a c) = listed.on_store (store.at_anchor a (anchored_of s c))
 
--- A look, get or read of a slot, codes 4, 5 and 7; and what stands after the anchor, of the codes 4 to 9.
-abbrev pub slot_call : ℕ → Slot → store.SlotCall
-slot_call code x = cond (eqb code 4) (store.look x) (cond (eqb code 5) (store.get x) (store.read x))
+-- A retention's form byte and its number; what stands after the anchor; and what stands after a code.
+abbrev pub parse_limit : List ℕ → Parsed Retention
+parse_limit l = then (parse_form l) (λ f q. parse_retention f q)
 
-abbrev pub parse_rest : ℕ → List ℕ → Parsed store.AnchoredCall
-parse_rest code = cond (eqb code 6) parse_put (cond (eqb code 8) parse_take (cond (eqb code 9) parse_answer (parse_with_slot (slot_call code))))
+abbrev pub parse_rest : AnchoredCode → List ℕ → Parsed store.AnchoredCall
+parse_rest rest.Look = parse_with_slot store.look
+parse_rest rest.Get = parse_with_slot store.get
+parse_rest rest.Put = parse_put
+parse_rest rest.Read = parse_with_slot store.read
+parse_rest rest.Take = parse_take
+parse_rest rest.Answer = parse_answer
 
--- Each answer: what was read and the bytes after it, or a fault and the bytes from its place on. Then the place after what was read, or the fault's.
-abbrev pub retention_answer : List ℕ → RetentionRead → Parsed Retention
-retention_answer s (retention.Value x c) = parsed x (drop c.at s)
-retention_answer s (retention.Fault n c) = fault n (drop c.at s)
+abbrev pub parse_coded : Code → List ℕ → Parsed listed.ListedCall
+parse_coded code.Open = parse_open
+parse_coded code.Install = parse_install
+parse_coded code.Advance = parse_advance
+parse_coded (code.Anchored c) = parse_anchored (parse_rest c)
 
-abbrev pub retention_next : RetentionRead → ℕ
-retention_next (retention.Value x c) = c.at
-retention_next (retention.Fault n c) = c.at
-
-abbrev pub prepared_answer : List ℕ → PreparedRead → Parsed store.Prepared
-prepared_answer s (prepared.Value x c) = parsed (prepared_of s x) (drop c.at s)
-prepared_answer s (prepared.Fault n c) = fault n (drop c.at s)
-
-abbrev pub prepared_next : PreparedRead → ℕ
-prepared_next (prepared.Value x c) = c.at
-prepared_next (prepared.Fault n c) = c.at
-
-abbrev pub anchored_answer : List ℕ → AnchoredRead → Parsed store.AnchoredCall
-anchored_answer s (anchored.Value x c) = parsed (anchored_of s x) (drop c.at s)
-anchored_answer s (anchored.Fault n c) = fault n (drop c.at s)
-
-abbrev pub anchored_next : AnchoredRead → ℕ
-anchored_next (anchored.Value x c) = c.at
-anchored_next (anchored.Fault n c) = c.at
-
-abbrev pub call_answer : List ℕ → CallRead → Parsed listed.ListedCall
-call_answer s (call.Value x c) = parsed (call_of s x) (drop c.at s)
-call_answer s (call.Fault n c) = fault n (drop c.at s)
-
-abbrev pub call_next : CallRead → ℕ
-call_next (call.Value x c) = c.at
-call_next (call.Fault n c) = c.at
-
--- A call that was read has at least one byte.
-abbrev pub CallProgress : ℕ → CallRead → Type 0
-CallProgress at (call.Value x c) = at < c.at
-CallProgress at (call.Fault n c) = Unit {0}
+-- A code byte says how what follows it is read, or it is none.
+abbrev pub CodeSays : ℕ → Result Code FaultKind → Type 0
+CodeSays b (Ok c) = (l : List ℕ) → parse_call (b ∷ l) ≡ parse_coded c l
+CodeSays b (Err k) = (k ≡ Unknown) × ((l : List ℕ) → parse_call (b ∷ l) ≡ fault 3 (b ∷ l))
 
 -- Where the spans of a call stand: within the list. An answer's members end at the next place.
 abbrev pub PreparedWithin : List ℕ → Prepared → Type 0
@@ -106,15 +81,3 @@ CallWithin s next (OpenWith c d R) = Unit {0}
 CallWithin s next (Install a) = Unit {0}
 CallWithin s next (Advance a h p) = PreparedWithin s p
 CallWithin s next (Anchored a c) = AnchoredWithin s next c
-
-abbrev pub PreparedSpans : List ℕ → PreparedRead → Type 0
-PreparedSpans s (prepared.Value x c) = PreparedWithin s x
-PreparedSpans s (prepared.Fault n c) = Unit {0}
-
-abbrev pub AnchoredSpans : List ℕ → AnchoredRead → Type 0
-AnchoredSpans s (anchored.Value x c) = AnchoredWithin s c.at x
-AnchoredSpans s (anchored.Fault n c) = Unit {0}
-
-abbrev pub CallSpans : List ℕ → CallRead → Type 0
-CallSpans s (call.Value x c) = CallWithin s c.at x
-CallSpans s (call.Fault n c) = Unit {0}

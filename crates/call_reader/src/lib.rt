@@ -1,22 +1,14 @@
 // The reader of calls: each call of a call list, by its code.
 #![tactic(auto)]
 
-ghost use Rattle.std.specs.Prelude.{◌≡◌, true, ◌+◌, ◌≤◌, ◌<◌, length, drop};
-ghost use Rattle.call_list.specs.CallList.{parse_retention, parse_limits, parse_open, parse_install, parse_prepared, parse_advance, parse_put, parse_round, parse_answer, parse_with_slot, parse_anchored, parse_call};
-ghost use Rattle.reader.specs.Answers.{Reading};
-ghost use Rattle.call_reader.specs.Calls.{retention_answer, retention_next, prepared_answer, prepared_next, PreparedSpans, anchored_answer, anchored_next, call_answer, call_next};
-ghost use Rattle.call_reader.specs.Calls.{AnchoredSpans, CallProgress, CallSpans, slot_call_of, slot_call, parse_rest};
+ghost use Rattle.std.specs.Prelude.{◌≡◌, ◌<◌, IfOk};
+ghost use Rattle.call_list.specs.CallList.{parse_open, parse_install, parse_prepared, parse_advance, parse_anchored, parse_answer, parse_call};
+ghost use Rattle.reader.specs.Reading.{Reads, as_is};
+ghost use Rattle.call_reader.specs.Calls.{prepared_of, anchored_of, call_of, parse_limit, parse_rest, CodeSays, PreparedWithin, AnchoredWithin, CallWithin};
 
 use model::delta_snapshot::{Retention, Slot};
 use model::storage_memo::{ReadAnchor, U256};
-use reader::{AnchorRead, Cursor, Form, Number, SlotRead, Span, SpanRead, Word};
-
-// A retention that was read.
-#[derive(Clone, Copy)]
-pub enum RetentionRead {
-    Value(Retention, Cursor),
-    Fault(u64, Cursor),
-}
+use reader::{FaultKind, Reader, Span};
 
 // A call on one slot.
 #[derive(Clone, Copy)]
@@ -36,26 +28,12 @@ pub enum AnchoredCall {
     AnswerFailed(Span),
 }
 
-// What stands after the anchor of a call that names one.
-#[derive(Clone, Copy)]
-pub enum AnchoredRead {
-    Value(AnchoredCall, Cursor),
-    Fault(u64, Cursor),
-}
-
 // What was prepared for an advance: skip, relevant addresses of 20 bytes each and writes of 84.
 #[derive(Clone, Copy)]
 pub struct Prepared {
     pub skip: u64,
     pub relevance: Span,
     pub writes: Span,
-}
-
-// What was prepared, as it was read.
-#[derive(Clone, Copy)]
-pub enum PreparedRead {
-    Value(Prepared, Cursor),
-    Fault(u64, Cursor),
 }
 
 // A call, as the list says it. An open has its capacity alone, or depth and retention too. An advance has child and parent hash.
@@ -68,276 +46,162 @@ pub enum ListedCall {
     Anchored(ReadAnchor, AnchoredCall),
 }
 
-// A call that was read.
+// What stands after the anchor of a call that names one.
 #[derive(Clone, Copy)]
-pub enum CallRead {
-    Value(ListedCall, Cursor),
-    Fault(u64, Cursor),
+enum AnchoredCode {
+    Look,
+    Get,
+    Put,
+    Read,
+    Take,
+    Answer,
 }
 
-// A retention, by its form byte: unbounded, or an idle number.
-fn read_retention(s: &[u8], idle: bool, c: Cursor) -> RetentionRead
-    requires { c.at ≤ length s.now }
-    ensures { Reading (retention_answer s.now result) (parse_retention idle (drop c.at s.now)) c.at (retention_next result) (length s.now) }
-{
-    if idle {
-        match reader::read_number(s, c) {
-            Number::Value(blocks, next) => RetentionRead::Value(
-                Retention::IdleBlocks(blocks),
-                next,
-            ),
-            Number::Fault(n, place) => RetentionRead::Fault(n, place),
+// What a call's code says that it is.
+#[derive(Clone, Copy)]
+enum Code {
+    Open,
+    Install,
+    Advance,
+    Anchored(AnchoredCode),
+}
+
+// The codes 1 to 9; any other is a fault.
+impl TryFrom<u8> for Code {
+    type Error = FaultKind;
+
+    ghost try_from_gives = { CodeSays };
+
+    #[tactic(auto, unfolding(call_list::specs::CallList::parse_call, call_list::specs::CallList::parse_of, call_list::specs::CallList::code_table))]
+    fn try_from(byte: u8) -> Result<Code, FaultKind> {
+        match byte {
+            1 => Ok(Code::Open),
+            2 => Ok(Code::Install),
+            3 => Ok(Code::Advance),
+            4 => Ok(Code::Anchored(AnchoredCode::Look)),
+            5 => Ok(Code::Anchored(AnchoredCode::Get)),
+            6 => Ok(Code::Anchored(AnchoredCode::Put)),
+            7 => Ok(Code::Anchored(AnchoredCode::Read)),
+            8 => Ok(Code::Anchored(AnchoredCode::Take)),
+            9 => Ok(Code::Anchored(AnchoredCode::Answer)),
+            _ => Err(FaultKind::Unknown),
         }
+    }
+}
+
+// A retention: byte 0 unbounded, or 1 and the idle number.
+fn read_retention(from: &mut Reader<'_>) -> Result<Retention, FaultKind>
+    ensures { Reads as_is result parse_limit from.old from.new }
+{
+    if from.read_form()? {
+        Ok(Retention::IdleBlocks(from.read_number()?))
     } else {
-        RetentionRead::Value(Retention::Unbounded, c)
+        Ok(Retention::Unbounded)
     }
 }
 
-// An open's depth and retention, which stand after the form byte 1.
-fn read_depth(s: &[u8], capacity: u64, c: Cursor) -> CallRead
-    requires { c.at ≤ length s.now }
-    ensures reading { Reading (call_answer s.now result) (parse_limits capacity true (drop c.at s.now)) c.at (call_next result) (length s.now) }
-    ensures spans { CallSpans s.now result }
+// 1 open: capacity; byte 0, or 1, depth and retention.
+fn read_open(from: &mut Reader<'_>) -> Result<ListedCall, FaultKind>
+    ensures reading { Reads (call_of from.old.list.now) result parse_open from.old from.new }
+    ensures spans { IfOk result (CallWithin from.old.list.now from.new.at) }
 {
-    match reader::read_number(s, c) {
-        Number::Value(depth, form) => match reader::read_form(s, form) {
-            Form::Value(idle, rest) => match read_retention(s, idle, rest) {
-                RetentionRead::Value(retention, next) => CallRead::Value(
-                    ListedCall::OpenWith(capacity, depth, retention),
-                    next,
-                ),
-                RetentionRead::Fault(n, place) => CallRead::Fault(n, place),
-            },
-            Form::Fault(n, place) => CallRead::Fault(n, place),
-        },
-        Number::Fault(n, place) => CallRead::Fault(n, place),
+    let capacity = from.read_number()?;
+    if !from.read_form()? {
+        return Ok(ListedCall::OpenDefault(capacity));
     }
-}
-
-// An open's limits, by its form byte: none named, or both.
-fn read_limits(s: &[u8], capacity: u64, named: bool, c: Cursor) -> CallRead
-    requires { c.at ≤ length s.now }
-    ensures reading { Reading (call_answer s.now result) (parse_limits capacity named (drop c.at s.now)) c.at (call_next result) (length s.now) }
-    ensures spans { CallSpans s.now result }
-{
-    if named {
-        read_depth(s, capacity, c)
-    } else {
-        CallRead::Value(ListedCall::OpenDefault(capacity), c)
-    }
-}
-
-// 1 open: capacity, and the limits.
-fn read_open(s: &[u8], c: Cursor) -> CallRead
-    requires { c.at ≤ length s.now }
-    ensures reading { Reading (call_answer s.now result) (parse_open (drop c.at s.now)) c.at (call_next result) (length s.now) }
-    ensures spans { CallSpans s.now result }
-{
-    match reader::read_number(s, c) {
-        Number::Value(capacity, form) => match reader::read_form(s, form) {
-            Form::Value(named, next) => read_limits(s, capacity, named, next),
-            Form::Fault(n, place) => CallRead::Fault(n, place),
-        },
-        Number::Fault(n, place) => CallRead::Fault(n, place),
-    }
+    let depth = from.read_number()?;
+    let retention = read_retention(from)?;
+    Ok(ListedCall::OpenWith(capacity, depth, retention))
 }
 
 // 2 install: an anchor.
-fn read_install(s: &[u8], c: Cursor) -> CallRead
-    requires { c.at ≤ length s.now }
-    ensures reading { Reading (call_answer s.now result) (parse_install (drop c.at s.now)) c.at (call_next result) (length s.now) }
-    ensures spans { CallSpans s.now result }
+fn read_install(from: &mut Reader<'_>) -> Result<ListedCall, FaultKind>
+    ensures reading { Reads (call_of from.old.list.now) result parse_install from.old from.new }
+    ensures spans { IfOk result (CallWithin from.old.list.now from.new.at) }
 {
-    match reader::read_anchor(s, c) {
-        AnchorRead::Value(anchor, next) => CallRead::Value(ListedCall::Install(anchor), next),
-        AnchorRead::Fault(n, place) => CallRead::Fault(n, place),
-    }
+    Ok(ListedCall::Install(from.read_anchor()?))
 }
 
 // What was prepared for an advance, after its skip: count and addresses, count and writes.
-fn read_prepared(s: &[u8], skip: u64, c: Cursor) -> PreparedRead
-    requires { c.at ≤ length s.now }
-    ensures reading { Reading (prepared_answer s.now result) (parse_prepared skip (drop c.at s.now)) c.at (prepared_next result) (length s.now) }
-    ensures spans { PreparedSpans s.now result }
+fn read_prepared(from: &mut Reader<'_>, skip: u64) -> Result<Prepared, FaultKind>
+    ensures reading { Reads (prepared_of from.old.list.now) result (parse_prepared skip) from.old from.new }
+    ensures spans { IfOk result (PreparedWithin from.old.list.now) }
 {
-    match reader::read_entries(s, 20, c) {
-        SpanRead::Value(relevance, rest) => match reader::read_entries(s, 84, rest) {
-            SpanRead::Value(writes, next) => {
-                PreparedRead::Value(
-                    Prepared {
-                        skip,
-                        relevance,
-                        writes,
-                    },
-                    next,
-                )
-            }
-            SpanRead::Fault(n, place) => PreparedRead::Fault(n, place),
-        },
-        SpanRead::Fault(n, place) => PreparedRead::Fault(n, place),
-    }
+    let relevance = from.read_entries(20)?;
+    let writes = from.read_entries(84)?;
+    Ok(Prepared {
+        skip,
+        relevance,
+        writes,
+    })
 }
 
 // 3 advance: child, parent hash, skip, and the rest of what was prepared.
-fn read_advance(s: &[u8], c: Cursor) -> CallRead
-    requires { c.at ≤ length s.now }
-    ensures reading { Reading (call_answer s.now result) (parse_advance (drop c.at s.now)) c.at (call_next result) (length s.now) }
-    ensures spans { CallSpans s.now result }
+fn read_advance(from: &mut Reader<'_>) -> Result<ListedCall, FaultKind>
+    ensures reading { Reads (call_of from.old.list.now) result parse_advance from.old from.new }
+    ensures spans { IfOk result (CallWithin from.old.list.now from.new.at) }
 {
-    match reader::read_anchor(s, c) {
-        AnchorRead::Value(child, hash) => match reader::read_u256(s, hash) {
-            Word::Value(parent_hash, number) => match reader::read_number(s, number) {
-                Number::Value(skip, rest) => match read_prepared(s, skip, rest) {
-                    PreparedRead::Value(prepared, next) => CallRead::Value(
-                        ListedCall::Advance(child, parent_hash, prepared),
-                        next,
-                    ),
-                    PreparedRead::Fault(n, place) => CallRead::Fault(n, place),
-                },
-                Number::Fault(n, place) => CallRead::Fault(n, place),
-            },
-            Word::Fault(n, place) => CallRead::Fault(n, place),
-        },
-        AnchorRead::Fault(n, place) => CallRead::Fault(n, place),
-    }
-}
-
-// A look, get or read, by its code.
-fn slot_call(code: u8, slot: Slot) -> SlotCall
-    ensures { slot_call_of result ≡ slot_call code slot }
-{
-    if code == 4 {
-        SlotCall::Look(slot)
-    } else if code == 5 {
-        SlotCall::Get(slot)
-    } else {
-        SlotCall::Read(slot)
-    }
-}
-
-// 4 look, 5 get, 7 read: a slot.
-fn read_slot_call(s: &[u8], code: u8, c: Cursor) -> AnchoredRead
-    requires { c.at ≤ length s.now }
-    ensures reading { Reading (anchored_answer s.now result) (parse_with_slot (slot_call code) (drop c.at s.now)) c.at (anchored_next result) (length s.now) }
-    ensures spans { AnchoredSpans s.now result }
-{
-    match reader::read_slot(s, c) {
-        SlotRead::Value(slot, next) => AnchoredRead::Value(
-            AnchoredCall::OnSlot(slot_call(code, slot)),
-            next,
-        ),
-        SlotRead::Fault(n, place) => AnchoredRead::Fault(n, place),
-    }
-}
-
-// 6 put: slot, value.
-fn read_put(s: &[u8], c: Cursor) -> AnchoredRead
-    requires { c.at ≤ length s.now }
-    ensures reading { Reading (anchored_answer s.now result) (parse_put (drop c.at s.now)) c.at (anchored_next result) (length s.now) }
-    ensures spans { AnchoredSpans s.now result }
-{
-    match reader::read_slot(s, c) {
-        SlotRead::Value(slot, rest) => match reader::read_u256(s, rest) {
-            Word::Value(value, next) => AnchoredRead::Value(
-                AnchoredCall::OnSlot(SlotCall::Put(slot, value)),
-                next,
-            ),
-            Word::Fault(n, place) => AnchoredRead::Fault(n, place),
-        },
-        SlotRead::Fault(n, place) => AnchoredRead::Fault(n, place),
-    }
-}
-
-// An answer's slots: members, or those of a failed round.
-fn read_round(s: &[u8], failed: bool, c: Cursor) -> AnchoredRead
-    requires { c.at ≤ length s.now }
-    ensures reading { Reading (anchored_answer s.now result) (parse_round failed (drop c.at s.now)) c.at (anchored_next result) (length s.now) }
-    ensures spans { AnchoredSpans s.now result }
-{
-    if failed {
-        match reader::read_entries(s, 52, c) {
-            SpanRead::Value(slots, next) => AnchoredRead::Value(
-                AnchoredCall::AnswerFailed(slots),
-                next,
-            ),
-            SpanRead::Fault(n, place) => AnchoredRead::Fault(n, place),
-        }
-    } else {
-        match reader::read_members(s, c) {
-            SpanRead::Value(members, next) => AnchoredRead::Value(
-                AnchoredCall::Answer(members),
-                next,
-            ),
-            SpanRead::Fault(n, place) => AnchoredRead::Fault(n, place),
-        }
-    }
+    let child = from.read_anchor()?;
+    let parent_hash = from.read_u256()?;
+    let skip = from.read_number()?;
+    let prepared = read_prepared(from, skip)?;
+    Ok(ListedCall::Advance(child, parent_hash, prepared))
 }
 
 // 9 answer: byte 0 members or 1 failed.
-fn read_answer(s: &[u8], c: Cursor) -> AnchoredRead
-    requires { c.at ≤ length s.now }
-    ensures reading { Reading (anchored_answer s.now result) (parse_answer (drop c.at s.now)) c.at (anchored_next result) (length s.now) }
-    ensures spans { AnchoredSpans s.now result }
+fn read_answer(from: &mut Reader<'_>) -> Result<AnchoredCall, FaultKind>
+    ensures reading { Reads (anchored_of from.old.list.now) result parse_answer from.old from.new }
+    ensures spans { IfOk result (AnchoredWithin from.old.list.now from.new.at) }
 {
-    match reader::read_form(s, c) {
-        Form::Value(failed, next) => read_round(s, failed, next),
-        Form::Fault(n, place) => AnchoredRead::Fault(n, place),
+    if from.read_form()? {
+        Ok(AnchoredCall::AnswerFailed(from.read_entries(52)?))
+    } else {
+        Ok(AnchoredCall::Answer(from.read_members()?))
     }
 }
 
-// What stands after the anchor, of the codes 4 to 9.
-fn read_rest(s: &[u8], code: u8, c: Cursor) -> AnchoredRead
-    requires { c.at ≤ length s.now }
-    ensures reading { Reading (anchored_answer s.now result) (parse_rest code (drop c.at s.now)) c.at (anchored_next result) (length s.now) }
-    ensures spans { AnchoredSpans s.now result }
+// What stands after the anchor: a slot, of a put its value too; of a take nothing.
+fn read_rest(from: &mut Reader<'_>, code: AnchoredCode) -> Result<AnchoredCall, FaultKind>
+    ensures reading { Reads (anchored_of from.old.list.now) result (parse_rest code) from.old from.new }
+    ensures spans { IfOk result (AnchoredWithin from.old.list.now from.new.at) }
 {
-    if code == 6 {
-        read_put(s, c)
-    } else if code == 8 {
-        AnchoredRead::Value(AnchoredCall::Take, c)
-    } else if code == 9 {
-        read_answer(s, c)
-    } else {
-        read_slot_call(s, code, c)
+    match code {
+        AnchoredCode::Look => Ok(AnchoredCall::OnSlot(SlotCall::Look(from.read_slot()?))),
+        AnchoredCode::Get => Ok(AnchoredCall::OnSlot(SlotCall::Get(from.read_slot()?))),
+        AnchoredCode::Put => {
+            let slot = from.read_slot()?;
+            let value = from.read_u256()?;
+            Ok(AnchoredCall::OnSlot(SlotCall::Put(slot, value)))
+        }
+        AnchoredCode::Read => Ok(AnchoredCall::OnSlot(SlotCall::Read(from.read_slot()?))),
+        AnchoredCode::Take => Ok(AnchoredCall::Take),
+        AnchoredCode::Answer => read_answer(from),
     }
 }
 
 // 4 to 9: an anchor first, then the rest of the call.
-fn read_anchored(s: &[u8], code: u8, c: Cursor) -> CallRead
-    requires { c.at ≤ length s.now }
-    ensures reading { Reading (call_answer s.now result) (parse_anchored (parse_rest code) (drop c.at s.now)) c.at (call_next result) (length s.now) }
-    ensures spans { CallSpans s.now result }
+fn read_anchored(from: &mut Reader<'_>, code: AnchoredCode) -> Result<ListedCall, FaultKind>
+    ensures reading { Reads (call_of from.old.list.now) result (parse_anchored (parse_rest code)) from.old from.new }
+    ensures spans { IfOk result (CallWithin from.old.list.now from.new.at) }
 {
-    match reader::read_anchor(s, c) {
-        AnchorRead::Value(anchor, rest) => match read_rest(s, code, rest) {
-            AnchoredRead::Value(call, next) => CallRead::Value(
-                ListedCall::Anchored(anchor, call),
-                next,
-            ),
-            AnchoredRead::Fault(n, place) => CallRead::Fault(n, place),
-        },
-        AnchorRead::Fault(n, place) => CallRead::Fault(n, place),
-    }
+    let anchor = from.read_anchor()?;
+    let call = read_rest(from, code)?;
+    Ok(ListedCall::Anchored(anchor, call))
 }
 
 // A call: its code, then its parts.
-pub fn read_call(s: &[u8], c: Cursor) -> CallRead
-    requires { c.at ≤ length s.now }
-    ensures reading { Reading (call_answer s.now result) (parse_call (drop c.at s.now)) c.at (call_next result) (length s.now) }
-    ensures progress { CallProgress c.at result }
-    ensures spans { CallSpans s.now result }
+#[tactic(auto, unfolding(call_list::specs::CallList::parse_call))]
+pub fn read_call(from: &mut Reader<'_>) -> Result<ListedCall, FaultKind>
+    ensures reading { Reads (call_of from.old.list.now) result parse_call from.old from.new }
+    ensures progress { IfOk result (λ _. from.old.at < from.new.at) }
+    ensures spans { IfOk result (CallWithin from.old.list.now from.new.at) }
 {
-    let at = c.at;
-    if s.len() <= at {
-        return CallRead::Fault(5, Cursor { at: s.len() });
-    }
-    let code = s[at];
-    let next = Cursor { at: at + 1 };
+    let code = Code::try_from(from.peek()?)?;
+    from.at += 1;
     match code {
-        1 => read_open(s, next),
-        2 => read_install(s, next),
-        3 => read_advance(s, next),
-        4..=9 => read_anchored(s, code, next),
-        _ => CallRead::Fault(3, Cursor { at }),
+        Code::Open => read_open(from),
+        Code::Install => read_install(from),
+        Code::Advance => read_advance(from),
+        Code::Anchored(code) => read_anchored(from, code),
     }
 }

@@ -1,9 +1,11 @@
 -- A run from the output's beginning, and where it stopped. Assumes nothing.
 use Prim.Native.Nat.{ℕ, ◌+◌, ◌≤◌, ◌<◌}
 use mathlib.Core.Path.{◌≡◌, refl, ap, subst, ◌∙◌}
-use mathlib.Core.Bool.{Bool, true, false, cond}
+use mathlib.Core.Bool.{Bool}
 use mathlib.Core.List.{List, append-nil}
-use mathlib.Core.Option.{some, none}
+use Rattle.std.specs.Prelude.{Option, Some, None}
+use Rattle.reader.specs.declared.Fault.{Fault}
+use Rattle.reader.specs.Answers.{fault_number}
 use native.Mathlib.Omega.{arith}
 use lib.Dec.{leb}
 use lib.ListN.{length, take}
@@ -19,11 +21,11 @@ use Rattle.call_run.proofs.Reached.{calls_forward}
 
 -- Where a run begins.
 abbrev pub first_at : List ℕ → ℕ → Bool → Progress
-first_at list from known = record { next = from; at = 0; known = known; ended = leb (length list) from; broken = false; fault = 0; place = 0 }
+first_at list from known = record { next = from; at = 0; known = known; ended = leb (length list) from; fault = None }
 
 -- The run that the loop makes: past calls alone, or to a fault.
 module _ (w e : ℕ) (list b out : List ℕ) (from : ℕ) (known : Bool) (b1 out1 : List ℕ) (r : Progress) (u : RunOn w e list (first_at list from known) b out r b1 out1) where
-  ran_to : RunTo w e list from u.to (fault_met r) r.at b out b1 out1
+  ran_to : RunTo w e list from u.to (fault_met r.fault) r.at b out b1 out1
   ran_to =
       record {
         calls = u.calls;
@@ -35,16 +37,16 @@ module _ (w e : ℕ) (list b out : List ℕ) (from : ℕ) (known : Bool) (b1 out
         same_length = u.same_length;
       }
 
-  ran_so : (next : ℕ) (x : Bool) → u.to ≡ next → r.broken ≡ x → RunTo w e list from next (cond x (some r.fault) none) r.at b out b1 out1
-  ran_so next x d h =
-      subst (λ (y : ℕ). RunTo w e list from y (cond x (some r.fault) none) r.at b out b1 out1) d
-      (subst (λ (y : Bool). RunTo w e list from u.to (cond y (some r.fault) none) r.at b out b1 out1) h ran_to)
+  ran_so : (next : ℕ) (o : Option Fault) → u.to ≡ next → r.fault ≡ o → RunTo w e list from next (fault_met o) r.at b out b1 out1
+  ran_so next o d h =
+      subst (λ (y : ℕ). RunTo w e list from y (fault_met o) r.at b out b1 out1) d
+      (subst (λ (x : Option Fault). RunTo w e list from u.to (fault_met x) r.at b out b1 out1) h ran_to)
 
-  pub ran_calls : r.broken ≡ false → RunTo w e list from r.next none r.at b out b1 out1
-  ran_calls h = ran_so r.next false (u.reached.whole h) h
+  pub ran_calls : r.fault ≡ None → RunTo w e list from r.next None r.at b out b1 out1
+  ran_calls h = ran_so r.next None (u.reached.whole h) h
 
-  pub ran_broken : r.broken ≡ true → (at : ℕ) × RunTo w e list from at (some r.fault) r.at b out b1 out1 × FaultAt list at r.fault r.place
-  ran_broken h = (u.to, ran_so u.to true refl h, (u.reached.stopped h).1)
+  pub ran_broken : (f : Fault) → r.fault ≡ Some f → (at : ℕ) × RunTo w e list from at (Some (fault_number f.kind)) r.at b out b1 out1 × FaultAt list at (fault_number f.kind) f.place.at
+  ran_broken f h = (u.to, ran_so u.to (Some f) refl h, (u.reached.stopped f h).1)
 
 -- Calls that wrote something lead to a later place.
 calls_past : (w e : ℕ) (b : List ℕ) {list : List ℕ} {from next : ℕ} {cs : List ListedCall} → CallsTo list from next cs → 0 < length (bytes_lines default_limits w e b cs) → from < next
@@ -53,7 +55,7 @@ calls_past w e b (call_then p k m u) h = omega (arith, calls_forward u)
 
 -- A run that had room for a call's lines, and has none now, leads to a later place.
 pub ran_forward : {w e : ℕ} {list : List ℕ} {from next written : ℕ} {b out after out_after : List ℕ}
-    → RunTo w e list from next none written b out after out_after → call_lines ≤ length out → length out < written + call_lines → from < next
+    → RunTo w e list from next None written b out after out_after → call_lines ≤ length out → length out < written + call_lines → from < next
 ran_forward {w = w} {e = e} {written = written} {b = b} {out_after = out_after} u h k =
     let n : length (take written out_after) ≡ written = length-take-le written out_after (omega (arith, u.written_within, u.same_length)) in
     let m : length (take written out_after) ≡ length (bytes_lines default_limits w e b u.calls) = ap length (u.text_is ∙ append-nil (bytes_lines default_limits w e b u.calls)) in

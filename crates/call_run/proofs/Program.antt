@@ -1,8 +1,8 @@
 -- The program `calls` runs a list on zero bytes for 256 records: what it prints is what the definition says. Assumes nothing.
+use Rattle.std.specs.Prelude.{None, Option}
 use Prim.Native.Nat.{ℕ, ◌≤◌}
 use mathlib.Core.Path.{◌≡◌, refl, sym, ap, ap₂, ◌∙◌}
 use mathlib.Core.List.{List, [], ◌++◌, append_assoc, append-nil}
-use mathlib.Core.Option.{Option, none}
 use native.Mathlib.Omega.{arith}
 use lib.ListN.{length, take, drop, length-drop, length-replicate, drop_of_length-le}
 use Rattle.model.specs.Numbers.{Bytes, num_from}
@@ -24,7 +24,7 @@ use Rattle.call_run.specs.Run.{CallsTo, no_call, call_then, FaultAt, RunTo}
 use Rattle.call_run.specs.Program.{program_bytes, Printed, last_run, broken_run, next_run, ProgramPrints}
 
 -- The program's bytes at first are no store: a store's capacity is not 0.
-no_store : decode program_bytes ≡ none
+no_store : decode program_bytes ≡ None
 unfolding decode words_of num_from read_store image_words words_eqb well_formed config_ok
 no_store = refl
 
@@ -34,7 +34,7 @@ unfolding calls_output
 run_is_calls_output input list f e =
     listing_on_bytes default_limits refl program_bytes list f (length-replicate {A = ℕ} (store_size 256) 0)
     ∙ ap (λ (m : Memory). listing default_limits m (call_list list)) no_store
-    ∙ ap (λ (l : List ℕ). listing default_limits none (call_list l)) e
+    ∙ ap (λ (l : List ℕ). listing default_limits None (call_list l)) e
 
 -- The listing of a list is the lines of its calls up to a place, and the listing from there on.
 listing_to : (w e : ℕ) (list : List ℕ) → Bytes list → {from next : ℕ} {cs : List ListedCall} (b : List ℕ) → CallsTo list from next cs
@@ -58,7 +58,7 @@ module _ {w e : ℕ} {list : List ℕ} (f : Bytes list) {from next written : ℕ
       ∙ ap (λ (x : List ℕ). bytes_lines default_limits w e b u.calls ++ x) (sym h ∙ ap (λ (x : List ℕ). bytes_listing default_limits w e x (call_list (drop next list))) u.bytes_are)
       ∙ sym (listing_to w e list f b u.calls_are)
 
-  listing_on : RunTo w e list from next none written b out after out_after
+  listing_on : RunTo w e list from next None written b out after out_after
       → take written out_after ++ bytes_listing default_limits w e after (call_list (drop next list)) ≡ bytes_listing default_limits w e b (call_list (drop from list))
   listing_on u =
       ap₂ (λ (x y : List ℕ). x ++ y) (u.text_is ∙ append-nil (bytes_lines default_limits w e b u.calls)) (ap (λ (x : List ℕ). bytes_listing default_limits w e x (call_list (drop next list))) u.bytes_are)

@@ -1,9 +1,11 @@
 -- The calls from a place to another, and the place that a run's calls lead to. Assumes nothing.
 use Prim.Native.Nat.{ℕ, ◌≤◌}
-use mathlib.Core.Path.{◌≡◌, refl, sym, ap, ◌∙◌}
-use mathlib.Core.Bool.{Bool, true, false, cond, true≢false}
+use mathlib.Core.Path.{◌≡◌, refl, sym, ap, subst, ◌∙◌}
+use mathlib.Core.Bool.{true, false, true≢false}
 use mathlib.Core.List.{List, [], ◌++◌}
-use mathlib.Core.Option.{some, none}
+use Rattle.std.specs.Prelude.{Option, Some, None}
+use Rattle.reader.specs.declared.Fault.{Fault}
+use Rattle.reader.specs.Answers.{fault_number}
 use native.Mathlib.Omega.{arith}
 use Rattle.call_list.specs.Listed.{ListedCall}
 use Rattle.call_list.specs.Listing.{end_line}
@@ -21,21 +23,29 @@ pub calls_forward : {list : List ℕ} {from to : ℕ} {cs : List ListedCall} →
 calls_forward no_call = omega arith
 calls_forward (call_then e h k u) = omega (arith, calls_forward u)
 
--- The place of the next call, with no fault met.
-pub reached_next : (list : List ℕ) (t : Progress) → t.broken ≡ false → Reached list t.next t
-reached_next list t h = record { whole = λ e. refl; stopped = λ e. absurd (true≢false (sym e ∙ h)) }
+-- A fault was met or not.
+not_both : {P : Type 0} {o : Option Fault} {f : Fault} → o ≡ None → o ≡ Some f → P
+not_both h e = let z : ◌≡◌ {A = ℕ} 0 1 = cc in absurd (omega arith)
 
-pub no_end : (t : Progress) → t.broken ≡ false → end_line (fault_met t) ≡ []
-no_end t h = ap (λ (x : Bool). end_line (cond x (some t.fault) none)) h
+-- The place of the next call, with no fault met.
+pub reached_next : (list : List ℕ) (t : Progress) → t.fault ≡ None → Reached list t.next t
+reached_next list t h = record { whole = λ e. refl; stopped = λ f e. not_both h e }
+
+pub no_end : (t : Progress) → t.fault ≡ None → end_line (fault_met t.fault) ≡ []
+no_end t h = ap (λ o. end_line (fault_met o)) h
 
 -- A fault.
-pub reached_fault : (list : List ℕ) (to : ℕ) (t : Progress) → FaultAt list to t.fault t.place → t.ended ≡ true → t.broken ≡ true → Reached list to t
-reached_fault list to t f d b = record { whole = λ e. absurd (true≢false (sym b ∙ e)); stopped = λ e. (d, f) }
+pub reached_fault : (list : List ℕ) (to : ℕ) (t : Progress) (f : Fault) → FaultAt list to (fault_number f.kind) f.place.at → t.ended ≡ true → t.fault ≡ Some f → Reached list to t
+reached_fault list to t f h d b =
+    record {
+      whole = λ e. not_both e b;
+      stopped = λ g e. let q : f ≡ g = cc in (d, subst (λ (x : Fault). FaultAt list to (fault_number x.kind) x.place.at) q h);
+    }
 
 -- A run that has not ended has met no fault.
-pub no_fault : {list : List ℕ} {to : ℕ} (t : Progress) → Reached list to t → t.ended ≡ false → t.broken ≡ false
-no_fault {list} {to} t u h = by t.broken refl
+pub no_fault : {list : List ℕ} {to : ℕ} (t : Progress) → Reached list to t → t.ended ≡ false → t.fault ≡ None
+no_fault {list} {to} t u h = by t.fault refl
   where
-    by : (b : Bool) → t.broken ≡ b → t.broken ≡ false
-    by false e = e
-    by true e = absurd (true≢false (sym (u.stopped e).0 ∙ h))
+    by : (o : Option Fault) → t.fault ≡ o → t.fault ≡ None
+    by None e = e
+    by (Some f) e = absurd (true≢false (sym (u.stopped f e).0 ∙ h))

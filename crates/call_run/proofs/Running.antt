@@ -8,7 +8,6 @@ use borrow.Author.Tests.{leb-false, le-leb}
 use lib.Dec.{leb}
 use lib.ListN.{length, take, drop}
 use lib.Seq.{take-take}
-use Rattle.model.specs.Contents.{is_some}
 use Rattle.model.specs.Numbers.{Bytes}
 use Rattle.model.specs.Store.{Call}
 use Rattle.image.specs.Image.{decode, BytesResult, bytes_step, bytes_final}
@@ -29,6 +28,9 @@ use Rattle.call_answers.specs.Answers.{lines_of}
 use Rattle.call_answers.proofs.Lines.{lines_are}
 use Rattle.call_steps.specs.Steps.{with_lent, SteppedAs}
 use Rattle.call_steps.proofs.After.{store_after_is, answer_room}
+use Rattle.std.specs.Prelude.{None, is_some}
+use Rattle.reader.specs.declared.Fault.{Fault}
+use Rattle.reader.specs.Answers.{fault_number}
 use Rattle.call_progress.specs.declared.Progress.{Progress}
 use Rattle.call_progress.specs.Progress.{call_lines, store_after, broken_at}
 use Rattle.call_run.specs.Run.{CallsTo, no_call, call_then, FaultAt}
@@ -38,7 +40,7 @@ use Rattle.call_run.proofs.Reached.{calls_then, reached_next, reached_fault, no_
 use Rattle.call_run.proofs.Room.{lines_fit_lent}
 
 -- No call.
-pub ran_none : (w e : ℕ) (list b out : List ℕ) (t : Progress) → RunAt t list b out → t.broken ≡ false → RunOn w e list t b out t b out
+pub ran_none : (w e : ℕ) (list b out : List ℕ) (t : Progress) → RunAt t list b out → t.fault ≡ None → RunOn w e list t b out t b out
 ran_none w e list b out t h g =
     record {
       to = t.next;
@@ -58,10 +60,10 @@ ran_none w e list b out t h g =
 pub ran_then : (w e : ℕ) (list b out : List ℕ) (t : Progress) (b1 out1 : List ℕ) (r : Progress) (b2 out2 : List ℕ) (q : Progress)
     → RunOn w e list t b out r b1 out1 → r.ended ≡ false → RunOn w e list r b1 out1 q b2 out2 → RunOn w e list t b out q b2 out2
 ran_then w e list b out t b1 out1 r b2 out2 q u go v =
-    let g : r.broken ≡ false = no_fault r u.reached go in
+    let g : r.fault ≡ None = no_fault r u.reached go in
     let cs : List ListedCall = u.calls in
     let ds : List ListedCall = v.calls in
-    let end : List ℕ = end_line (fault_met q) in
+    let end : List ℕ = end_line (fault_met q.fault) in
     let mid : List ℕ = bytes_final b (lent_each default_limits w e cs) in
     let first : drop t.at (take r.at out2) ≡ bytes_lines default_limits w e b cs =
     ap (drop t.at) v.before_is ∙ u.text_is ∙ ap (λ (x : List ℕ). bytes_lines default_limits w e b cs ++ x) (no_end r g) ∙ append-nil (bytes_lines default_limits w e b cs) in
@@ -92,7 +94,7 @@ ran_then w e list b out t b1 out1 r b2 out2 q u go v =
 ran_text : (w e : ℕ) (list b out : List ℕ) (t : Progress) (after out_after : List ℕ) (r : Progress) (text : List ℕ) (to : ℕ) (cs : List ListedCall)
     → Written t.at text out out_after r.at → t.at + length text ≤ length out
     → CallsTo list t.next to cs → Reached list to r
-    → after ≡ bytes_final b (lent_each default_limits w e cs) → text ≡ bytes_lines default_limits w e b cs ++ end_line (fault_met r)
+    → after ≡ bytes_final b (lent_each default_limits w e cs) → text ≡ bytes_lines default_limits w e b cs ++ end_line (fault_met r.fault)
     → r.known ≡ is_some (decode after) → r.ended ≡ leb (length list) r.next
     → RunOn w e list t b out r after out_after
 ran_text w e list b out t after out_after r text to cs wr h calls reached bytes lines known ended =
@@ -122,7 +124,7 @@ pub ran_call : (w : ℕ) (entries list b out : List ℕ) (t : Progress) (after o
     → parsed c (drop r.next list) ≡ parse_call (drop t.next list) → (t.next < r.next) × (r.next ≤ length list)
     → SteppedAs a after entries_after (bytes_step b (with_lent (meaning default_limits c) w entries)) entries
     → Written t.at (lines_of a entries_after) out out_after r.at
-    → r.known ≡ store_after t.known a → r.ended ≡ leb (length list) r.next → r.broken ≡ false
+    → r.known ≡ store_after t.known a → r.ended ≡ leb (length list) r.next → r.fault ≡ None
     → RunOn w (length entries / 52) list t b out r after out_after
 ran_call w entries list b out t after out_after r c a entries_after f h room parse on s wr known ended whole =
     let e : ℕ = length entries / 52 in
@@ -140,25 +142,24 @@ ran_call w entries list b out t after out_after r c a entries_after f h room par
     ended
 
 -- A fault, which ends the list.
-pub ran_fault : (w e : ℕ) (list b out : List ℕ) (t : Progress) (out_after : List ℕ) (n place at : ℕ)
-    → RunAt t list b out → t.at + call_lines ≤ length out → FaultAt list t.next n place
-    → Written t.at (refusal_line n) out out_after at
-    → RunOn w e list t b out (broken_at list t n place at) b out_after
-ran_fault w e list b out t out_after n place at h room f wr =
-    let r : Progress = broken_at list t n place at in
+pub ran_fault : (w e : ℕ) (list b out : List ℕ) (t : Progress) (out_after : List ℕ) (f : Fault) (at : ℕ)
+    → RunAt t list b out → t.at + call_lines ≤ length out → FaultAt list t.next (fault_number f.kind) f.place.at
+    → Written t.at (refusal_line (fault_number f.kind)) out out_after at
+    → RunOn w e list t b out (broken_at list t f at) b out_after
+ran_fault w e list b out t out_after f at h room k wr =
+    let r : Progress = broken_at list t f at in
+    let n : ℕ = fault_number f.kind in
     ran_text w e list b out t b out_after r (refusal_line n) t.next [] wr (omega (arith, refusal_line_length n))
     no_call
-    (reached_fault list t.next r f refl refl)
+    (reached_fault list t.next r f k refl refl)
     (sym (final_none default_limits w e b))
     (sym (ap (λ (x : List ℕ). x ++ refusal_line n) (lines_none default_limits w e b)))
     h.known_is
     (sym (le-leb (length list) (length list) (omega arith)))
 
--- A run to a place that is known, and that it leads on.
-pub ran_to : {w e : ℕ} {list b out : List ℕ} {t : Progress} {after out_after : List ℕ} {r q : Progress} → r ≡ q
-    → RunOn w e list t b out q after out_after × ((t.next < q.next) × (q.next ≤ length list)) → RunOn w e list t b out r after out_after × ((t.next < r.next) × (r.next ≤ length list))
-ran_to {w} {e} {list} {b} {out} {t} {after} {out_after} h u =
-    subst (λ (x : Progress). RunOn w e list t b out x after out_after × ((t.next < x.next) × (x.next ≤ length list))) (sym h) u
+-- A run to a place that is known.
+pub ran_to : {w e : ℕ} {list b out : List ℕ} {t : Progress} {after out_after : List ℕ} {r q : Progress} → r ≡ q → RunOn w e list t b out q after out_after → RunOn w e list t b out r after out_after
+ran_to {w} {e} {list} {b} {out} {t} {after} {out_after} h u = subst (λ (x : Progress). RunOn w e list t b out x after out_after) (sym h) u
 
 -- The areas keep their lengths.
 pub same_lent : (w w1 n n1 : ℕ) (list b out : List ℕ) (t : Progress) (b1 out1 : List ℕ) (r : Progress) → w1 ≡ w → n1 ≡ n → RunOn w1 (n1 / 52) list t b out r b1 out1 → RunOn w (n / 52) list t b out r b1 out1

@@ -1,6 +1,5 @@
 -- The run of a call list from a place on, as far as an output goes.
-use Rattle.std.specs.Prelude.{ℕ, ◌+◌, ◌*◌, ◌/◌, ◌≤◌, ◌<◌, ◌≡◌, Bool, true, false, ◌||◌, List, [], ◌∷◌, ◌++◌, leb, ltb, length, take, drop}
-use Rattle.std.proofs.Math.Option.{Option, some, none}
+use Rattle.std.specs.Prelude.{ℕ, ◌+◌, ◌*◌, ◌/◌, ◌≤◌, ◌<◌, ◌≡◌, Bool, true, false, ◌||◌, List, [], ◌∷◌, ◌++◌, leb, ltb, length, take, drop, None, Option, Some}
 use Rattle.image.specs.Image.{BytesCall, bytes_step, bytes_trace, bytes_final}
 use Rattle.call_list.specs.Listed.{ListedCall}
 use Rattle.call_list.specs.Meaning.{default_limits}
@@ -48,9 +47,9 @@ abbrev pub RanAs : RunReply → ℕ → ℕ → List ℕ → ℕ → List ℕ �
 RanAs (Refused n) w e list from members before out after out_after = (n ≡ 9) × (too_short list members out ≡ true) × (after ≡ before) × (out_after ≡ out)
 RanAs (Listed next written ended) w e list from members before out after out_after =
     (too_short list members out ≡ false)
-    × RunTo w e list from next.at none written before out after out_after
+    × RunTo w e list from next.at None written before out after out_after
     × (ended ≡ leb (length list) next.at)
     × (ended ≡ false → length out < written + call_lines)
 RanAs (Broken n place written) w e list from members before out after out_after =
     (too_short list members out ≡ false)
-    × ((at : ℕ) × RunTo w e list from at (some n) written before out after out_after × FaultAt list at n place.at)
+    × ((at : ℕ) × RunTo w e list from at (Some n) written before out after out_after × FaultAt list at n place.at)

@@ -1,7 +1,7 @@
 // The run of a call list: its calls one after the other, and their lines. docs/REFERENCE.md describes it.
 #![tactic(auto)]
 
-ghost use Rattle.std.specs.Prelude.{◌≡◌, false, ◌+◌, ◌*◌, ◌/◌, ◌≤◌, ◌<◌, length};
+ghost use Rattle.std.specs.Prelude.{◌≡◌, false, None, ◌+◌, ◌*◌, ◌/◌, ◌≤◌, ◌<◌, length};
 ghost use Rattle.call_progress.specs.Progress.{call_lines};
 ghost use Rattle.call_run.specs.Run.{LinesFit, too_short, RanAs};
 ghost use Rattle.call_run.specs.Inner.{RunAt, RunOn};
@@ -9,8 +9,7 @@ ghost use Rattle.call_run.specs.Program.{ProgramPrints};
 
 pub use call_progress::CALL_LINES;
 use call_progress::Progress;
-use call_reader::CallRead;
-use reader::Cursor;
+use reader::{Cursor, Fault, Reader};
 
 // A run's reply: 9; or the place of the next call, the bytes written and whether the list has ended; or the fault that ended the list, its place and the bytes written.
 #[derive(Clone, Copy)]
@@ -42,15 +41,17 @@ fn run_call(
     ensures run { RunOn (length work.old) (length entries.old / 52) list.now t s.old out.old result s.new out.new }
     ensures forward { (t.next < result.next) × (result.next ≤ length list.now) }
 {
-    match call_reader::read_call(list, Cursor { at: t.next }) {
-        CallRead::Value(call, after) => {
+    let mut from = Reader { list, at: t.next };
+    match call_reader::read_call(&mut from) {
+        Ok(call) => {
             let a = call_steps::step(list, call, t.known, s, work, entries, members);
             let at = call_answers::answer_lines(out, t.at, a, entries);
-            call_progress::after_call(list, t, a, after, at)
+            call_progress::after_call(list, t, a, Cursor { at: from.at }, at)
         }
-        CallRead::Fault(n, place) => {
-            let at = listing::refusal_line(out, t.at, n);
-            call_progress::after_fault(list, t, n, place, at)
+        Err(kind) => {
+            let at = listing::refusal_line(out, t.at, u64::from(kind));
+            let place = Cursor { at: from.at };
+            call_progress::after_fault(list, t, Fault { kind, place }, at)
         }
     }
 }
@@ -65,7 +66,7 @@ fn run_calls(
     members: &mut [u8],
     out: &mut [u8],
 ) -> Progress
-    requires { RunAt first list.now s.old out.old × (first.broken ≡ false) × (length list.now / 53 * 85 ≤ length members.old) }
+    requires { RunAt first list.now s.old out.old × (first.fault ≡ None) × (length list.now / 53 * 85 ≤ length members.old) }
     ensures run { RunOn (length work.old) (length entries.old / 52) list.now first s.old out.old result s.new out.new }
     ensures room { result.ended ≡ false → length out.old < result.at + call_lines }
 {
@@ -80,10 +81,7 @@ fn run_calls(
 fn too_short(list: &[u8], members: &[u8], out: &[u8]) -> bool
     ensures { result ≡ too_short list.now members.now out.now }
 {
-    if out.len() < CALL_LINES {
-        return true;
-    }
-    members.len() < list.len() / 53 * 85
+    out.len() < CALL_LINES || members.len() < list.len() / 53 * 85
 }
 
 // Runs a call list from a place on, until it ends, at a fault, or where the output has no room for another call's lines. The bytes are checked once. What `work`, `entries` and `members` hold after it is free.
@@ -106,15 +104,13 @@ pub fn run(
         at: 0,
         known: check_store::is_store(s),
         ended: list.len() <= from.at,
-        broken: false,
-        fault: 0,
-        place: 0,
+        fault: None,
     };
     let last = run_calls(list, first, s, work, entries, members, out);
-    if last.broken {
+    if let Some(fault) = last.fault {
         return RunReply::Broken {
-            fault: last.fault,
-            place: Cursor { at: last.place },
+            fault: u64::from(fault.kind),
+            place: fault.place,
             written: last.at,
         };
     }

@@ -1,9 +1,9 @@
 -- What a call leaves: whether the bytes are a store, how many bytes and how long an output, and room for the slots that it lists. Assumes nothing.
+use Rattle.std.specs.Prelude.{None, Option, Some, is_some}
 use Prim.Native.Nat.{ℕ, suc, ◌*◌, ◌/◌, ◌≤◌}
 use mathlib.Core.Path.{◌≡◌, refl, sym, ap, subst, ◌∙◌}
 use mathlib.Core.Bool.{Bool, true, false, cond}
 use mathlib.Core.List.{List, [], ◌∷◌}
-use mathlib.Core.Option.{Option, some, none}
 use native.Mathlib.Omega.{arith}
 use native.Mathlib.Nat.{div-add-mod'}
 use lib.Dec.{ltb}
@@ -13,7 +13,6 @@ use Rattle.model.specs.declared.storage_memo.ReadAnchor.{ReadAnchor}
 use Rattle.model.specs.declared.storage_memo.U256.{U256}
 use Rattle.model.specs.declared.delta_snapshot.Slot.{Slot}
 use Rattle.model.specs.Slots.{Value, anchor_eqb}
-use Rattle.model.specs.Contents.{is_some}
 use Rattle.model.specs.Reads.{Pending, queued}
 use Rattle.model.specs.Entries.{slot_bytes, slots_bytes, with_slots}
 use Rattle.model.specs.Store.{Config, Generation, look, get, put, read, AnchoredCall, on_slot, take, answer, answer_failed, Prepared, StoreCall, install, advance, at_anchor, Call, open_store, on_store, Report, listed, Store, Memory, value_report, perform_get, perform_read, perform_at, resolved, perform, accept}
@@ -57,10 +56,10 @@ still (Answered m e w) = refl
 
 concluded : (m : Memory) (c : Call) (r : Option ℕ) → is_some (conclude r m (accept m c)).memory ≡ store_after (is_some m) (call_answer (conclude r m (accept m c)).answer)
 unfolding accept
-concluded m c (some n) = refl
-concluded m (open_store n d R) none = refl
-concluded none (on_store c) none = refl
-concluded (some st) (on_store c) none = still (call_answer (ok (perform st.config st.installed c).report))
+concluded m c (Some n) = refl
+concluded m (open_store n d R) None = refl
+concluded None (on_store c) None = refl
+concluded (Some st) (on_store c) None = still (call_answer (ok (perform st.config st.installed c).report))
 
 pub store_after_is : (b : List ℕ) (c : BytesCall) → call_fits c.call ≡ true → is_some (decode (bytes_step b c).bytes) ≡ store_after (is_some (decode b)) (call_answer (bytes_step b c).answer)
 unfolding bytes_step step
@@ -105,33 +104,33 @@ length_queued (w ∷ q) = omega (arith, length_queued q, length_cond w.taken w.s
 
 module _ (n : ℕ) where
   of_value : (o : Option Value) → Listing n (value_report o)
-  of_value none = silent n _ refl refl
-  of_value (some v) = silent n _ refl refl
+  of_value None = silent n _ refl refl
+  of_value (Some v) = silent n _ refl refl
 
   of_get : (g : Generation) (s : Slot) (o : Option Value) → Listing n (perform_get g s o).report
-  of_get g s none = silent n _ refl refl
-  of_get g s (some v) = silent n _ refl refl
+  of_get g s None = silent n _ refl refl
+  of_get g s (Some v) = silent n _ refl refl
 
   of_read : (g : Generation) (s : Slot) (o : Option Value) → Listing n (perform_read g s o).report
-  of_read g s none = silent n _ refl refl
-  of_read g s (some v) = silent n _ refl refl
+  of_read g s None = silent n _ refl refl
+  of_read g s (Some v) = silent n _ refl refl
 
   of_advance : (k : ℕ) {r : Report} → IsAdvanced k r → k ≤ n → Listing n r
   of_advance k (is_advanced d e) h = record { few = omega arith; held = omega arith; fit = each_none; puts = omega arith }
 
 -- An accepted take, by what was not refused: 27; and an advance: 9.
-of_take : (cfg : Config) (g : Generation) (l : Lent) (a : ReadAnchor) → installed_ok cfg (some g) ≡ true → Unrefused (memory_of cfg (some g)) l (on_store (at_anchor a take)) → Listing l.output_entries (listed (queued g.pending))
+of_take : (cfg : Config) (g : Generation) (l : Lent) (a : ReadAnchor) → installed_ok cfg (Some g) ≡ true → Unrefused (memory_of cfg (Some g)) l (on_store (at_anchor a take)) → Listing l.output_entries (listed (queued g.pending))
 unfolding output_short_of_queue
 of_take cfg g l a e u =
     let k : GenerationFacts cfg g = generation_facts cfg g e in
     let h : length (queued g.pending) ≤ l.output_entries = ltb-false l.output_entries (length (queued g.pending)) u.output_holds_queue in
     record { few = omega (arith, length_queued g.pending, k.few_pending); held = h; fit = queued_fit g.pending k.pending_right; puts = h }
 
-writes_held : (st : Store) (l : Lent) (child : ReadAnchor) (h : U256) (p : Prepared) → Unrefused (some st) l (on_store (advance child h p)) → length p.writes ≤ l.output_entries
+writes_held : (st : Store) (l : Lent) (child : ReadAnchor) (h : U256) (p : Prepared) → Unrefused (Some st) l (on_store (advance child h p)) → length p.writes ≤ l.output_entries
 unfolding lent_too_short
 writes_held st l child h p u = ltb-false l.output_entries (length p.writes) (or_false_right (ltb l.work_bytes (work_size st.config.capacity)) _ u.lent_enough)
 
-at_call : (cfg : Config) (g : Generation) (l : Lent) (a : ReadAnchor) (k : AnchoredCall) → installed_ok cfg (some g) ≡ true → Unrefused (memory_of cfg (some g)) l (on_store (at_anchor a k)) → Listing l.output_entries (perform_at cfg g k).report
+at_call : (cfg : Config) (g : Generation) (l : Lent) (a : ReadAnchor) (k : AnchoredCall) → installed_ok cfg (Some g) ≡ true → Unrefused (memory_of cfg (Some g)) l (on_store (at_anchor a k)) → Listing l.output_entries (perform_at cfg g k).report
 at_call cfg g l a (on_slot (look s)) e u = of_value l.output_entries (resolved cfg.retention g s)
 at_call cfg g l a (on_slot (get s)) e u = of_get l.output_entries g s (resolved cfg.retention g s)
 at_call cfg g l a (on_slot (put s v)) e u = silent l.output_entries _ refl refl
@@ -144,20 +143,20 @@ on_call : (cfg : Config) (o : Option Generation) (l : Lent) (c : StoreCall) → 
 unfolding perform
 on_call cfg o l (advance child h p) e u =
     of_advance l.output_entries (length p.writes) (reported child h p cfg o) (writes_held (record { config = cfg; installed = o }) l child h p u)
-on_call cfg none l (install a) e u = silent l.output_entries _ refl refl
-on_call cfg (some g) l (install a) e u = split (anchor_eqb g.anchor a) (λ y. rw y (silent l.output_entries _ refl refl)) (λ y. rw y (silent l.output_entries _ refl refl))
-on_call cfg none l (at_anchor a k) e u = silent l.output_entries _ refl refl
-on_call cfg (some g) l (at_anchor a k) e u = at_call cfg g l a k e u
+on_call cfg None l (install a) e u = silent l.output_entries _ refl refl
+on_call cfg (Some g) l (install a) e u = split (anchor_eqb g.anchor a) (λ y. rw y (silent l.output_entries _ refl refl)) (λ y. rw y (silent l.output_entries _ refl refl))
+on_call cfg None l (at_anchor a k) e u = silent l.output_entries _ refl refl
+on_call cfg (Some g) l (at_anchor a k) e u = at_call cfg g l a k e u
 
 accepted : (m : Memory) (l : Lent) (c : Call) → memory_ok m ≡ true → Unrefused m l c → Listing l.output_entries (accept m c).report
 unfolding accept
 accepted m l (open_store n d R) e u = silent l.output_entries _ refl refl
-accepted none l (on_store c) e u = silent l.output_entries _ refl refl
-accepted (some st) l (on_store c) e u = on_call st.config st.installed l c (store_facts st e).installed_right u
+accepted None l (on_store c) e u = silent l.output_entries _ refl refl
+accepted (Some st) l (on_store c) e u = on_call st.config st.installed l c (store_facts st e).installed_right u
 
 decoded_ok : (b : List ℕ) (m : Memory) → decode b ≡ m → memory_ok m ≡ true
-decoded_ok b none e = refl
-decoded_ok b (some st) e = (decode_some b st e).right
+decoded_ok b None e = refl
+decoded_ok b (Some st) e = (decode_some b st e).right
 
 -- The output keeps its length.
 length_slots : (ss : List Slot) → length (slots_bytes ss) ≡ 52 * length ss
@@ -173,7 +172,7 @@ module _ (b : List ℕ) (c : Call) (w : ℕ) (entries : List ℕ) where
   abbrev lent : Lent
   lent = (lent_call (length b) (with_lent c w entries)).lent
 
-  reports : refusal (decode b) lent c ≡ none → Listing (length entries / 52) (accept (decode b) c).report
+  reports : refusal (decode b) lent c ≡ None → Listing (length entries / 52) (accept (decode b) c).report
   reports q = accepted (decode b) lent c (decoded_ok b (decode b) refl) (unrefused (decode b) lent c q)
 
   pub answer_room : AnswerRoom (bytes_step b (with_lent c w entries)).answer entries
@@ -181,8 +180,8 @@ module _ (b : List ℕ) (c : Call) (w : ℕ) (entries : List ℕ) where
   answer_room = go (refusal (decode b) lent c) refl
     where
       go : (r : Option ℕ) → refusal (decode b) lent c ≡ r → AnswerRoom (conclude r (decode b) (accept (decode b) c)).answer entries
-      go (some n) q = record { few = omega arith; held = omega arith; fit = each_none }
-      go none q =
+      go (Some n) q = record { few = omega arith; held = omega arith; fit = each_none }
+      go None q =
           let r : Report = (accept (decode b) c).report in
           let k : Listing (length entries / 52) r = reports q in
           let e : slots_listed (call_answer (ok r)) ≡ length (listed_in r) = slots_listed_count (ok r) in
@@ -193,5 +192,5 @@ module _ (b : List ℕ) (c : Call) (w : ℕ) (entries : List ℕ) where
   output_length = go (refusal (decode b) lent c) refl
     where
       go : (r : Option ℕ) → refusal (decode b) lent c ≡ r → length (output_after (conclude r (decode b) (accept (decode b) c)).answer entries) ≡ length entries
-      go (some n) q = refl
-      go none q = length_put (output_slots (accept (decode b) c).report) entries (omega (arith, (reports q).puts, div-add-mod' (length entries) 52))
+      go (Some n) q = refl
+      go None q = length_put (output_slots (accept (decode b) c).report) entries (omega (arith, (reports q).puts, div-add-mod' (length entries) 52))

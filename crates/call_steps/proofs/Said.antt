@@ -1,9 +1,12 @@
 -- What a call comes to on bytes with what is lent to it. Assumes nothing.
+use Rattle.replies.specs.declared.ReadOutcome.TheVariants.{Value, Waiting}
+use Rattle.replies.specs.declared.Installed.TheVariants.{Same, Fresh}
+use Rattle.std.specs.Prelude.{Ok, Err}
+use Rattle.std.specs.Prelude.{None, Option, Some, is_some}
 use Prim.Native.Nat.{ℕ, suc, ◌≤◌}
 use mathlib.Core.Path.{◌≡◌, refl, sym, ap, subst, ◌∙◌}
 use mathlib.Core.Bool.{false}
 use mathlib.Core.List.{List, [], ◌∷◌}
-use mathlib.Core.Option.{Option, some, none}
 use native.Mathlib.Omega.{arith}
 use lib.ListN.{length}
 use Rattle.model.specs.declared.storage_memo.ReadAnchor.{ReadAnchor}
@@ -14,7 +17,7 @@ use Rattle.model.specs.declared.storage_memo.Address.{Address}
 use Rattle.model.specs.Slots.{anchor_eqb}
 use Rattle.model.specs.Advance.{Write, WriteKind, overwrite, new, skip, AppliedWrites, DeltaReport, relevant, final_write_kind, apply_write, count_write, seed_final_writes, compact_base, seal, void_base, classify_link, skip_of, carries}
 use Rattle.model.specs.Reads.{Member}
-use Rattle.model.specs.Contents.{is_some, valued_use}
+use Rattle.model.specs.Contents.{valued_use}
 use Rattle.model.specs.Layers.{Layer, find, freshest_use}
 use Rattle.model.specs.Entries.{slots_bytes}
 use Rattle.model.specs.Store.{Config, Generation, look, get, put, read, on_slot, take, answer, answer_failed, Prepared, StoreCall, install, advance, at_anchor, Call, open_store, on_store, Report, advanced, Memory, perform, carry, cold_advance}
@@ -22,23 +25,17 @@ use Rattle.model.specs.Refusals.{Answer, refuse, refusal, conditions, lent_too_s
 use Rattle.model.proofs.SlotLaws.{split, not_both}
 use Rattle.image.specs.Image.{decode, BytesResult, bytes_step}
 use Rattle.image.specs.Output.{output_after}
-use Rattle.replies.specs.declared.OpenReply.{OpenReply}
-use Rattle.replies.specs.declared.OpenReply.TheVariants as opened
-use Rattle.replies.specs.declared.InstallReply.{InstallReply}
-use Rattle.replies.specs.declared.InstallReply.TheVariants as installed
-use Rattle.replies.specs.declared.LookReply.{LookReply}
-use Rattle.replies.specs.declared.LookReply.TheVariants as looked
-use Rattle.replies.specs.declared.PutReply.{PutReply}
-use Rattle.replies.specs.declared.PutReply.TheVariants as stored
+use Rattle.replies.specs.Replies.{OpenReply}
+use Rattle.replies.specs.Replies.{InstallReply}
+use Rattle.replies.specs.Replies.{LookReply}
+use Rattle.replies.specs.Replies.{PutReply}
 use Rattle.replies.specs.Replies.{open_reply, install_reply, look_reply, put_reply, read_reply, answer_reply, alone, with_output, Stepped, Took, AdvancedAs}
 use Rattle.unchecked_calls.proofs.Turned.{no_store}
-use Rattle.replies.specs.declared.ReadReply.{ReadReply}
-use Rattle.replies.specs.declared.ReadReply.TheVariants as waited
-use Rattle.replies.specs.declared.AnswerReply.{AnswerReply}
-use Rattle.replies.specs.declared.AnswerReply.TheVariants as answered
-use Rattle.replies.specs.declared.TakeReply.{TakeReply}
+use Rattle.replies.specs.Replies.{ReadReply}
+use Rattle.replies.specs.Replies.{AnswerReply}
+use Rattle.replies.specs.Replies.{TakeReply}
 use Rattle.unchecked_reads.proofs.Said.{turned_down}
-use Rattle.replies.specs.declared.AdvanceReply.{AdvanceReply}
+use Rattle.replies.specs.Replies.{AdvanceReply}
 use Rattle.call_answers.specs.declared.CallAnswer.{CallAnswer}
 use Rattle.call_answers.specs.declared.CallAnswer.TheVariants.{Refused}
 use Rattle.call_answers.specs.Answers.{call_answer, take_as, advance_as}
@@ -46,9 +43,9 @@ use Rattle.call_answers.proofs.Lines.{take_means, advance_means}
 use Rattle.call_steps.specs.Steps.{with_lent, SteppedAs}
 
 -- Bytes that are no store.
-pub no_memory : (m : Memory) → is_some m ≡ false → m ≡ none
-no_memory none e = refl
-no_memory (some st) e = not_both refl e
+pub no_memory : (m : Memory) → is_some m ≡ false → m ≡ None
+no_memory None e = refl
+no_memory (Some st) e = not_both refl e
 
 -- The calls that use neither a work area nor an output.
 pub data Plain : Call → Type 0 where
@@ -86,36 +83,36 @@ Silent a = (e : List ℕ) → output_after a e ≡ e
 
 pub silent_open : (r : OpenReply) → Silent (open_reply r)
 unfolding slots_bytes
-silent_open (opened.Refused n) e = refl
-silent_open opened.Opened e = refl
+silent_open (Err n) e = refl
+silent_open (Ok x) e = refl
 
 pub silent_install : (r : InstallReply) → Silent (install_reply r)
 unfolding slots_bytes
-silent_install (installed.Refused n) e = refl
-silent_install installed.Same e = refl
-silent_install installed.Fresh e = refl
+silent_install (Err n) e = refl
+silent_install (Ok Same) e = refl
+silent_install (Ok Fresh) e = refl
 
 pub silent_look : (r : LookReply) → Silent (look_reply r)
 unfolding slots_bytes
-silent_look (looked.Refused n) e = refl
-silent_look looked.Nothing e = refl
-silent_look (looked.Value v) e = refl
+silent_look (Err n) e = refl
+silent_look (Ok None) e = refl
+silent_look (Ok (Some v)) e = refl
 
 pub silent_put : (r : PutReply) → Silent (put_reply r)
 unfolding slots_bytes
-silent_put (stored.Refused n) e = refl
-silent_put stored.Stored e = refl
+silent_put (Err n) e = refl
+silent_put (Ok x) e = refl
 
 pub silent_read : (r : ReadReply) → Silent (read_reply r)
 unfolding slots_bytes
-silent_read (waited.Refused n) e = refl
-silent_read (waited.Value v) e = refl
-silent_read (waited.Waiting n) e = refl
+silent_read (Err n) e = refl
+silent_read (Ok (Value v)) e = refl
+silent_read (Ok (Waiting n)) e = refl
 
 pub silent_answer : (r : AnswerReply) → Silent (answer_reply r)
 unfolding slots_bytes
-silent_answer (answered.Refused n) e = refl
-silent_answer (answered.Answered m x w) e = refl
+silent_answer (Err n) e = refl
+silent_answer (Ok r) e = refl
 
 -- A call by another name.
 pub named_as : {r : CallAnswer} {after out : List ℕ} (b : List ℕ) (w : ℕ) (e : List ℕ) {g c : Call} → g ≡ c → SteppedAs r after out (bytes_step b (with_lent c w e)) e → SteppedAs r after out (bytes_step b (with_lent g w e)) e
@@ -133,8 +130,8 @@ pub refused_as : (n : ℕ) (b e : List ℕ) (o : BytesResult) → o ≡ record {
 refused_as n b e o q = subst (λ (x : BytesResult). SteppedAs (Refused n) b e x e) (sym q) (record { answer_is = refl; bytes_is = refl; entries_is = refl })
 
 -- Bytes that are no store: 20.
-pub said_20 : (b : List ℕ) (c : StoreCall) (w : ℕ) (e : List ℕ) → decode b ≡ none → SteppedAs (Refused 20) b e (bytes_step b (with_lent (on_store c) w e)) e
-said_20 b c w e d = refused_as 20 b e _ (turned_down b none (with_lent (on_store c) w e) d 20 (no_store _ c))
+pub said_20 : (b : List ℕ) (c : StoreCall) (w : ℕ) (e : List ℕ) → decode b ≡ None → SteppedAs (Refused 20) b e (bytes_step b (with_lent (on_store c) w e)) e
+said_20 b c w e d = refused_as 20 b e _ (turned_down b None (with_lent (on_store c) w e) d 20 (no_store _ c))
 
 -- A take and an advance ---------------------------------------------------------------------------------
 
@@ -159,11 +156,11 @@ applied_few R n relevance b (w ∷ ws) l =
 module _ (child : ReadAnchor) (h : U256) (p : Prepared) where
   pub reported : (cfg : Config) (o : Option Generation) → IsAdvanced (length p.writes) (perform cfg o (advance child h p)).report
   unfolding perform carry cold_advance
-  reported cfg none = is_advanced _ (applied_few cfg.retention child.number p.relevance void_base p.writes [])
-  reported cfg (some g) =
+  reported cfg None = is_advanced _ (applied_few cfg.retention child.number p.relevance void_base p.writes [])
+  reported cfg (Some g) =
       split (anchor_eqb g.anchor child)
       (λ e. let z : 0 ≤ length p.writes = omega arith in rw e (is_advanced _ z))
-      (λ e. rw e (split (carries (classify_link (some g.anchor) child h) (skip_of p.skip))
+      (λ e. rw e (split (carries (classify_link (Some g.anchor) child h) (skip_of p.skip))
       (λ y. rw y (is_advanced _ (applied_few cfg.retention child.number p.relevance (seal g.top (compact_base cfg.retention cfg.max_depth g.anchor.number g.base).base) p.writes [])))
       (λ y. rw y (is_advanced _ (applied_few cfg.retention child.number p.relevance void_base p.writes [])))))
 

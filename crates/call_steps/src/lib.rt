@@ -1,9 +1,7 @@
 // One call of a call list on a store.
 #![tactic(auto)]
 
-ghost use Rattle.std.specs.Prelude.{◌≡◌, List, ℕ, ◌+◌, ◌*◌, ◌/◌, ◌≤◌, length};
-ghost use Rattle.std.proofs.Math.Option.{none};
-ghost use Rattle.model.specs.Contents.{is_some};
+ghost use Rattle.std.specs.Prelude.{◌≡◌, List, ℕ, ◌+◌, ◌*◌, ◌/◌, ◌≤◌, length, None, is_some};
 ghost use Rattle.model.specs.Store as calls;
 ghost use Rattle.model.specs.Store.{on_store, at_anchor};
 ghost use Rattle.image.specs.Image.{decode, bytes_step};
@@ -160,7 +158,7 @@ fn on_store(
 
 // A call on bytes that are no store.
 fn on_other(call: ListedCall, s: &mut [u8]) -> CallAnswer
-    requires { decode s.old ≡ none }
+    requires { decode s.old ≡ None }
     ensures { (l : List ℕ) (w : ℕ) (e : List ℕ) → SteppedAs result s.new e (bytes_step s.old (with_lent (meant l call) w e)) e }
 {
     match call {

@@ -1,12 +1,11 @@
--- The table over one record more; the walk down a chain.
+-- The table of no records; the walk down a chain.
 use mathlib.Core.Path.{◌≡◌, refl, sym, subst, ◌∙◌}
 use mathlib.Core.Bool.{true, false}
 use mathlib.Core.List.{List}
-use Prim.Native.Nat.{ℕ, zero, suc, ◌+◌, ◌≤◌, ◌<◌}
+use Prim.Native.Nat.{ℕ, zero, suc, ◌≤◌, ◌<◌}
 use native.Mathlib.Omega.{arith}
 use lib.Dec.{eqb, ltb}
-use lib.ListN.{get_or, set, replicate, length-replicate, length-set}
-use lib.Seq.{get_or-set_same, get_or-set_other}
+use lib.ListN.{get_or, replicate, length-replicate}
 use borrow.Author.Tests.{eqb-true, eqb-false, ltb-true, ltb-false}
 use Rattle.model.specs.Slots.{slot_eqb}
 use Rattle.model.proofs.SlotLaws.{split, slot_eqb_true, slot_eqb_false}
@@ -20,18 +19,6 @@ module _ {P : ℕ → Type 0} where
   -- Below 0 there is none.
   pub last_zero : Last P 0 0
   last_zero = record { low = omega arith; has = λ k e. absurd (omega arith); later = λ k h l p. omega arith }
-
-  -- A number that has the property is the last below the next.
-  pub last_this : (i : ℕ) → P i → Last P (i + 1) (i + 1)
-  last_this i p = record { low = omega arith; has = λ k e. let z : i ≡ k = omega arith in subst P z p; later = λ k h l q. omega arith }
-
-  -- One that does not leaves the last as it was.
-  pub last_other : (i p : ℕ) → (P i → ⊥) → Last P i p → Last P (i + 1) p
-  last_other i p d l = record {
-    low = omega (arith, l.low);
-    has = l.has;
-    later = λ k h m q. split (ltb k i) (λ t. l.later k h (ltb-true k i t) q) (λ f. let z : k ≡ i = omega (arith, ltb-false k i f) in d (subst P z q));
-  }
 
 -- The table --------------------------------------------------------------------------------------------------
 
@@ -48,21 +35,6 @@ chained_none s = record {
     zeros zero b = refl
     zeros (suc n) zero = refl
     zeros (suc n) (suc b) = zeros n b
-
--- One record more: its bucket's last record goes to its place in `prev`, and it becomes the last.
-pub chained_more : (s : List ℕ) (i b : ℕ) (head prev : List ℕ) → i < 4096 → b < 8192 → b ≡ bucket_at i s → Chained s i head prev
-    → Chained s (i + 1) (set head b (i + 1)) (set prev i (get_or head b 0))
-chained_more s i b head prev hi hb e c = record {
-  buckets = length-set head b (i + 1) ∙ c.buckets;
-  places = length-set prev i (get_or head b 0) ∙ c.places;
-  heads = λ h l. split (eqb h b)
-      (λ t. let z : h ≡ b = eqb-true h b t in rw z (subst (Last (λ k. bucket_at k s ≡ b) (i + 1)) (sym (get_or-set_same head b (i + 1) 0 (omega (arith, c.buckets)))) (last_this i (sym e))))
-      (λ f. subst (Last (λ k. bucket_at k s ≡ h) (i + 1)) (sym (get_or-set_other head b h (i + 1) 0 (eqb-false h b f))) (last_other i (get_or head h 0) (λ q. eqb-false h b f (sym q ∙ sym e)) (c.heads h l)));
-  prevs = λ j l. split (ltb j i)
-      (λ t. let d : j < i = ltb-true j i t in subst (Last (λ k. bucket_at k s ≡ bucket_at j s) j) (sym (get_or-set_other prev i j (get_or head b 0) 0 (λ q. omega arith))) (c.prevs j d))
-      (λ f. let z : j ≡ i = omega (arith, ltb-false j i f) in
-      rw z (subst (Last (λ k. bucket_at k s ≡ bucket_at i s) i) (sym (get_or-set_same prev i (get_or head b 0) 0 (omega (arith, c.places)))) (subst (λ (h : ℕ). Last (λ k. bucket_at k s ≡ h) i (get_or head b 0)) e (c.heads b hb))));
-}
 
 -- The walk ---------------------------------------------------------------------------------------------------
 
@@ -92,14 +64,10 @@ walk_on s i j p q e w d l = record {
       (λ v. w.none k (omega (arith, ltb-false k j u, eqb-false k j v)) m f));
 }
 
--- It ends at a record of the slot,
-pub walk_found : (s : List ℕ) (i j p : ℕ) → p ≡ suc j → Walking s i p → true ≡ slot_eqb (slot_at j s) (slot_at i s) → LastOfSlot s i p
+-- It may end at a record of the slot.
+pub walk_found : (s : List ℕ) (i j p : ℕ) → p ≡ suc j → Walking s i p → true ≡ slot_eqb (slot_at j s) (slot_at i s) → LastOfSlot s i (suc j)
 walk_found s i j p e w t = record {
-  low = w.low;
+  low = omega (arith, w.low);
   has = λ k f. let z : j ≡ k = omega arith in rw (← z) (slot_eqb_true (slot_at j s) (slot_at i s) (sym t));
-  later = w.none;
+  later = λ k h. w.none k (omega arith);
 }
-
--- or where the chain ends.
-pub walk_none : (s : List ℕ) (i : ℕ) → Walking s i 0 → LastOfSlot s i 0
-walk_none s i w = record { low = w.low; has = λ k e. absurd (omega arith); later = w.none }

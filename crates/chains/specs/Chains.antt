@@ -1,5 +1,5 @@
 -- The last record of a slot below a record, and the chains of records by bucket that find it.
-use Rattle.std.specs.Prelude.{ℕ, suc, ◌+◌, ◌*◌, ◌/◌, ◌%◌, ◌≤◌, ◌<◌, ◌≡◌, List, length, get_or}
+use Rattle.std.specs.Prelude.{ℕ, suc, ◌+◌, ◌*◌, ◌/◌, ◌%◌, ◌≤◌, ◌<◌, ◌≡◌, List, length, get_or, Option, Some, None}
 use Rattle.order.specs.Index.{slot_at}
 
 -- p says which is the last number below i that has a property: one more than it, or 0 if none has it.
@@ -7,6 +7,11 @@ pub record Last (P : ℕ → Type 0) (i p : ℕ) : Type 0 where
   pub low : p ≤ i
   pub has : (k : ℕ) → p ≡ suc k → P k
   pub later : (k : ℕ) → p ≤ k → k < i → P k → ⊥
+
+-- The number that stands for a record, or for none: one more than the record's, or 0.
+abbrev pub place_of : Option ℕ → ℕ
+place_of None = 0
+place_of (Some k) = suc k
 
 -- p says which is the last record below record i that has its slot.
 abbrev pub LastOfSlot : List ℕ → ℕ → ℕ → Type 0

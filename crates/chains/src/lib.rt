@@ -1,11 +1,11 @@
 // A table that finds the last record of a slot below a record: chains of records by bucket.
 #![tactic(auto)]
 
-ghost use Rattle.std.specs.Prelude.{◌≡◌, List, ℕ, ◌+◌, ◌*◌, ◌≤◌, ◌<◌, length};
+ghost use Rattle.std.specs.Prelude.{◌≡◌, List, ℕ, ◌+◌, ◌*◌, ◌≤◌, ◌<◌, length, IfSome};
 ghost use Rattle.layout.specs.Layout.{record_size};
 ghost use Rattle.model.specs.Slots.{slot_eqb};
 ghost use Rattle.order.specs.Index.{slot_at};
-ghost use Rattle.chains.specs.Chains.{mixed, bucket_at, LastOfSlot, Chained};
+ghost use Rattle.chains.specs.Chains.{mixed, bucket_at, LastOfSlot, place_of, Chained};
 
 // The number of a bucket from two words.
 fn mix(x: u64, y: u64) -> usize
@@ -32,24 +32,22 @@ fn same_slot(s: &[u8], i: usize, j: usize) -> bool
 {
     let a = i * layout::RECORD_SIZE;
     let b = j * layout::RECORD_SIZE;
-    let mut k = 0;
-    while k < layout::SLOT_WIDTH {
+    for k in 0..layout::SLOT_WIDTH {
         if words::read_u64(s, a + k * 8) != words::read_u64(s, b + k * 8) {
             return false;
         }
-        k += 1;
     }
     true
 }
 
-// What a search found, and how many steps are left. With none left nothing is found out.
+// What a search found, if there is one, and how many steps are left.
 #[derive(Clone, Copy)]
 pub struct Walked {
-    pub last: usize,
+    pub last: Option<usize>,
     pub left: usize,
 }
 
-// The last record below i that has its slot, in so many steps.
+// The last record below i that has its slot, if it is found out in so many steps.
 pub fn last_below(
     s: &[u8],
     i: usize,
@@ -57,23 +55,27 @@ pub fn last_below(
     head: &[u16; 8192],
     prev: &[u16; 4096],
     steps: usize,
-) -> Walked
+) -> Option<Walked>
     requires { (i * record_size + record_size ≤ length s.now) × (i < 4096) × (b ≡ bucket_at i s.now) × (b < 8192) × Chained s.now i head.now prev.now }
-    ensures { 0 < result.left → LastOfSlot s.now i result.last }
+    ensures { IfSome result (λ w. LastOfSlot s.now i (place_of w.last)) }
 {
+    // The table keeps one more than a record's number, or 0 for none, in fixed memory.
     let mut p = head[b] as usize;
     let mut left = steps;
     while 0 < p {
-        if left < 2 {
-            return Walked { last: 0, left: 0 };
+        if left == 0 {
+            return None;
         }
         left -= 1;
         if same_slot(s, p - 1, i) {
-            return Walked { last: p, left };
+            return Some(Walked {
+                last: Some(p - 1),
+                left,
+            });
         }
         p = prev[p - 1] as usize;
     }
-    Walked { last: 0, left }
+    Some(Walked { last: None, left })
 }
 
 // Puts record i into the table.

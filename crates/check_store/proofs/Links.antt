@@ -1,4 +1,5 @@
 -- The links of the chain of checks, each with what the earlier ones have shown.
+use Rattle.std.specs.Prelude.{is_some}
 use Prim.Native.Nat.{ℕ, suc, ◌+◌, ◌-◌, ◌*◌, ◌≤◌, ◌<◌}
 use mathlib.Core.Path.{◌≡◌, refl, sym, ap, ap₂, ◌∙◌}
 use mathlib.Core.Bool.{Bool, true, false, ◌&&◌, cond}
@@ -12,7 +13,6 @@ use Rattle.layout.specs.Layout.{awaiting_count_index, awaiting_offset, awaiting_
 use Rattle.model.specs.declared.delta_snapshot.Retention.{Retention}
 use Rattle.model.specs.declared.delta_snapshot.Retention.TheVariants.{Unbounded, IdleBlocks}
 use Rattle.model.specs.Numbers.{Bytes}
-use Rattle.model.specs.Contents.{is_some}
 use Rattle.model.specs.Layers.{Record, Layer, record_count}
 use Rattle.model.proofs.SlotLaws.{and_left, and_right, and_true, and_false}
 use Rattle.image.specs.WellFormed.{rising}
@@ -49,13 +49,6 @@ counts_say h e =
 pub ends_say : (d n : ℕ) (l : List ℕ) → ends_right d n l ≡ true → ends_rise n 0 (take (suc d) l) ≡ true
 unfolding ends_right
 ends_say d n l e = and_left (ends_rise n 0 (take (suc d) l)) _ e
-
--- The five checks, of the numbers that were read.
-pub parts_five : (h E A : List ℕ) (R : ℕ → List ℕ) (d n k m number : ℕ) (a b c x y : Bool) → d ≡ get_or h depth_index 0 → n ≡ get_or h records_count_index 0 → k ≡ get_or h awaiting_count_index 0 → m ≡ get_or h capacity_index 0 → number ≡ get_or h number_index 0 →
-    a ≡ anchor_right h → b ≡ counts_right h → c ≡ ends_right d n E → x ≡ reads_right k h A → y ≡ records_right number d n E (R m) →
-    (a && (b && (c && (x && y)))) ≡ parts_right h E A (R (get_or h capacity_index 0))
-unfolding parts_right
-parts_five h E A R d n k m number a b c x y pd pn pk pm pu pa pb pc px py = rw (pa, pb, pc, px, py, pd, pn, pk, pm, pu)
 
 -- The rules across layers -------------------------------------------------------------------------------
 

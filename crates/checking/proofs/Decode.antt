@@ -1,9 +1,9 @@
 -- The checks of bytes decide whether they are a store.
+use Rattle.std.specs.Prelude.{None, Some, is_some}
 use Prim.Native.Nat.{ℕ, ◌+◌, ◌-◌, ◌*◌, ◌≤◌}
 use mathlib.Core.Path.{◌≡◌, refl, sym, ap, ◌∙◌}
 use mathlib.Core.Bool.{Bool, true, false, ◌&&◌, cond}
 use mathlib.Core.List.{List, ◌++◌}
-use mathlib.Core.Option.{some, none}
 use native.Mathlib.Omega.{arith}
 use lib.Dec.{leb}
 use lib.ListN.{length, take, drop, length-drop}
@@ -12,7 +12,6 @@ use borrow.Author.Tests.{leb-true}
 use Rattle.layout.specs.Layout.{awaiting_offset, awaiting_table, awaiting_table_size, ends_limit, ends_offset, ends_size, header_width, record_width, records_offset}
 use Rattle.model.specs.Numbers.{num, Bytes}
 use Rattle.model.specs.Slots.{words_eqb}
-use Rattle.model.specs.Contents.{is_some}
 use Rattle.model.specs.Store.{Store}
 use Rattle.image.specs.WellFormed.{well_formed}
 use Rattle.model.specs.Refusals.{store_words}
@@ -63,10 +62,10 @@ decode_law s b =
     let e : num (take 8 (drop 8 s)) ≡ c = sym (word_at header_width 1 s (omega arith)) in
     let n : ℕ = store_words c in
     let st : Store = read_store (words_of n s) in
-    ap (λ (x : ℕ). let ws : List ℕ = words_of (store_words x) s in is_some {A = Store} (cond (leb (8 * store_words x) (length s) && (well_formed (read_store ws) && words_eqb ws (image_words (read_store ws)))) (some (read_store ws)) none)) e
+    ap (λ (x : ℕ). let ws : List ℕ = words_of (store_words x) s in is_some {T = Store} (cond (leb (8 * store_words x) (length s) && (well_formed (read_store ws) && words_eqb ws (image_words (read_store ws)))) (Some (read_store ws)) None)) e
     ∙ there (leb (8 * n) (length s) && (well_formed st && words_eqb (words_of n s) (image_words st))) st
     ∙ and_under (leb (8 * n) (length s)) _ _ (λ h. sym (parts_are s b (leb-true (8 * n) (length s) h)))
   where
-    there : (t : Bool) (st : Store) → is_some {A = Store} (cond t (some st) none) ≡ t
+    there : (t : Bool) (st : Store) → is_some {T = Store} (cond t (Some st) None) ≡ t
     there true st = refl
     there false st = refl

@@ -1,17 +1,15 @@
 -- The checks of a store's words decide whether the words are the image of the well-formed state that they read as.
+use Rattle.std.specs.Prelude.{None, Option, Some}
 use Prim.Native.Nat.{ℕ, zero, suc, pred, ◌+◌, ◌-◌, ◌*◌, ◌^◌, ◌≤◌, ◌<◌}
 use mathlib.Core.Path.{◌≡◌, refl, sym, ap, ap₂, subst, ◌∙◌}
 use mathlib.Core.Bool.{Bool, true, false, ◌&&◌, cond}
 use mathlib.Core.List.{List, [], ◌∷◌, ◌++◌, map, append_assoc}
-use mathlib.Core.Option.{Option, some, none}
 use native.Mathlib.Omega.{arith}
 use lib.Dec.{eqb, leb, ltb}
 use lib.ListN.{length, take, drop, get_or, replicate, length-append, length-drop, length-map, replicate-append-replicate}
 use lib.Seq.{length-take-le, take-append-le, drop-append-le, drop_at, drop-drop}
 use borrow.Author.Tests.{lt-ltb, le-leb, leb-true, eqb-true, eq-eqb}
 use Rattle.layout.specs.Layout.{accepted_index, awaiting_count_index, awaiting_table, awaiting_width, capacity_index, coalesced_index, depth_index, ends_limit, errors_index, generation_width, hash_index, header_width, idle_index, installed_index, magic, max_depth_index, members_index, number_index, record_width, records_count_index, refused_index, retention_index, rounds_index, served_index, table_width, valued_index, waiting_index}
-use Rattle.model.specs.declared.storage_memo.BlockHash.{BlockHash}
-use Rattle.model.specs.declared.storage_memo.BlockHash.TheVariants.{Unknown, Known}
 use Rattle.model.specs.declared.delta_snapshot.Retention.TheVariants.{Unbounded, IdleBlocks}
 use Rattle.model.specs.declared.read_hub.ReadTotals.{ReadTotals}
 use Rattle.model.specs.Slots.{words_eqb}
@@ -33,6 +31,7 @@ use Rattle.checking.specs.Checks.{awaiting_right, record_right, entries_rise, wa
 use Rattle.checking.proofs.Bools.{length_entries, and_swap, and_under, iff, and_implied, eqb_same, words_eqb_append, words_eqb_zeros, words_eqb_padded, spell, spelled, fit_at}
 use Rattle.checking.proofs.Cuts.{CutSays, cut_says, length_cut, layer_ends_rise, all_rising_cut}
 use Rattle.checking.proofs.Reading.{low, formed, used, waits, few, flagged, records_apart, awaiting_apart, records_fit, records_eqb, uses_right, pendings_eqb, pendings_right, waiters_are, few_each}
+use Rattle.model.specs.declared.storage_memo.U256.{U256}
 
 -- Reading ---------------------------------------------------------------------------------------------
 
@@ -40,8 +39,8 @@ use Rattle.checking.proofs.Reading.{low, formed, used, waits, few, flagged, reco
 abbrev config_of : (ℕ → ℕ) → Config
 config_of f = record { capacity = f capacity_index; max_depth = f max_depth_index; retention = cond (eqb (f retention_index) 0) Unbounded (IdleBlocks (f idle_index)) }
 
-abbrev hash_of : (ℕ → ℕ) → BlockHash
-hash_of f = cond (eqb (f hash_index) 0) Unknown (Known (record { w0 = f (hash_index + 1); w1 = f (hash_index + 2); w2 = f (hash_index + 3); w3 = f (hash_index + 4) }))
+abbrev hash_of : (ℕ → ℕ) → Option U256
+hash_of f = cond (eqb (f hash_index) 0) None (Some (record { w0 = f (hash_index + 1); w1 = f (hash_index + 2); w2 = f (hash_index + 3); w3 = f (hash_index + 4) }))
 
 abbrev totals_of : (ℕ → ℕ) → ReadTotals
 totals_of f = record { accepted = f accepted_index; served = f served_index; waiting = f waiting_index; valued = f valued_index; refused = f refused_index; rounds = f rounds_index; members = f members_index; errors = f errors_index; coalesced = f coalesced_index }
@@ -54,7 +53,7 @@ generation_of f c q = record { anchor = record { number = f number_index; hash =
 abbrev generation_at : (ℕ → ℕ) → List ℕ → Generation
 generation_at f t = generation_of f (cut 0 (take (suc (f depth_index)) t) (map read_record (entries record_width (f records_count_index) (drop table_width t))) []) (map read_pending (entries awaiting_width (f awaiting_count_index) (drop ends_limit t)))
 
-read_shape : (f : ℕ → ℕ) (t : List ℕ) → read_store (spell header_width f ++ t) ≡ record { config = config_of f; installed = cond (eqb (f installed_index) 0) none (some (generation_at f t)) }
+read_shape : (f : ℕ → ℕ) (t : List ℕ) → read_store (spell header_width f ++ t) ≡ record { config = config_of f; installed = cond (eqb (f installed_index) 0) None (Some (generation_at f t)) }
 unfolding read_store read_generation spell
 read_shape f t = refl
 
@@ -105,7 +104,7 @@ abbrev counted : (ℕ → ℕ) → Generation → Bool
 counted f g = eqb (f depth_index) (pred (length g.base)) && (eqb (f records_count_index) (record_count (chain g)) && eqb (f awaiting_count_index) (length g.pending))
 
 header_words : (f : ℕ → ℕ) (b : Bool) → eqb (f hash_index) 0 ≡ b → (k m n : ℕ) (t u : List ℕ) →
-    words_eqb (later f t) (1 ∷ f number_index ∷ (hash_words (cond b Unknown (Known (record { w0 = f (hash_index + 1); w1 = f (hash_index + 2); w2 = f (hash_index + 3); w3 = f (hash_index + 4) }))) ++ (k ∷ m ∷ n ∷ (totals_words (totals_of f) ++ u))))
+    words_eqb (later f t) (1 ∷ f number_index ∷ (hash_words (cond b None (Some (record { w0 = f (hash_index + 1); w1 = f (hash_index + 2); w2 = f (hash_index + 3); w3 = f (hash_index + 4) }))) ++ (k ∷ m ∷ n ∷ (totals_words (totals_of f) ++ u))))
     ≡ ((eqb (f installed_index) 1 && cond b (all_zero (f (hash_index + 1) ∷ f (hash_index + 2) ∷ f (hash_index + 3) ∷ f (hash_index + 4) ∷ [])) (eqb (f hash_index) 1)) && ((eqb (f depth_index) k && (eqb (f records_count_index) m && eqb (f awaiting_count_index) n)) && words_eqb t u))
 unfolding words_eqb all_zero
 header_words f true h k m n t u = simp (eqb_same, h) (four (eqb (f installed_index) 1) (eqb (f (hash_index + 1)) 0) (eqb (f (hash_index + 2)) 0) (eqb (f (hash_index + 3)) 0) (eqb (f (hash_index + 4)) 0) (eqb (f depth_index) k) (eqb (f records_count_index) m) (eqb (f awaiting_count_index) n) (words_eqb t u))
@@ -148,7 +147,7 @@ tables_law n E A R e a r hE hA hR he ha hr =
 
 -- With nothing installed ------------------------------------------------------------------------------
 
-empty_law : (n : ℕ) (l : List ℕ) → length l ≡ generation_width + table_width + record_width * n → words_eqb l (installed_words n none) ≡ all_zero l
+empty_law : (n : ℕ) (l : List ℕ) → length l ≡ generation_width + table_width + record_width * n → words_eqb l (installed_words n None) ≡ all_zero l
 empty_law n l h = ap (words_eqb l) (zeros generation_width ends_limit awaiting_table (record_width * n - 0)) ∙ words_eqb_zeros (generation_width + (ends_limit + (awaiting_table + (record_width * n - 0)))) l (omega arith)
   where
     zeros : (a b c d : ℕ) → ◌≡◌ {A = List ℕ} (replicate a 0 ++ (replicate b 0 ++ (replicate c 0 ++ replicate d 0))) (replicate (a + (b + (c + d))) 0)
@@ -168,7 +167,7 @@ layers_at f E R = cut 0 (take (suc (f depth_index)) E) (map read_record (entries
 
 -- A generation is right, and words are its own.
 abbrev is_image : (ℕ → ℕ) → List ℕ → Generation → Bool
-is_image f t g = generation_ok (config_of f) g && words_eqb (later f t) (installed_words (f capacity_index) (some g))
+is_image f t g = generation_ok (config_of f) g && words_eqb (later f t) (installed_words (f capacity_index) (Some g))
 
 -- What that says: facts of the generation, its numbers, and its tables.
 record ImageFacts (f : ℕ → ℕ) (t : List ℕ) (g : Generation) : Type 0 where
@@ -386,7 +385,7 @@ module _ (f : ℕ → ℕ) (E A R : List ℕ) (hE : length E ≡ ends_limit) (hA
         let short : leb (length (queue_of f A)) 64 ≡ true = le-leb (length (queue_of f A)) 64 (omega (arith, length_queue)) in
         glue anchor (ap (λ (x : Bool). x && top) chained) (and_intro _ _ deep (and_intro _ _ flat room')) (pendings_right (f awaiting_count_index) fitA (omega arith)) short (totals_law f (queue_of f A) _ _ (waiters_are (entries awaiting_width (f awaiting_count_index) A)) length_queue)
       where
-        hash_fit : (b : Bool) → hash_fits (cond b Unknown (Known (record { w0 = f (hash_index + 1); w1 = f (hash_index + 2); w2 = f (hash_index + 3); w3 = f (hash_index + 4) }))) ≡ true
+        hash_fit : (b : Bool) → hash_fits (cond b None (Some (record { w0 = f (hash_index + 1); w1 = f (hash_index + 2); w2 = f (hash_index + 3); w3 = f (hash_index + 4) }))) ≡ true
         hash_fit true = refl
         hash_fit false = rw (lt-ltb (f (hash_index + 1)) (2 ^ 64) (small (hash_index + 1)), lt-ltb (f (hash_index + 2)) (2 ^ 64) (small (hash_index + 2)), lt-ltb (f (hash_index + 3)) (2 ^ 64) (small (hash_index + 3)), lt-ltb (f (hash_index + 4)) (2 ^ 64) (small (hash_index + 4)))
 
@@ -458,7 +457,7 @@ store_law f E A R hE hA hR small fitA fitR =
     let t : List ℕ = E ++ (A ++ R) in
     let ws : List ℕ = spell header_width f ++ t in
     let cfg : Config = config_of f in
-    let i : Option Generation = cond (eqb (f installed_index) 0) none (some (generation_at f t)) in
+    let i : Option Generation = cond (eqb (f installed_index) 0) None (Some (generation_at f t)) in
     let first : List ℕ = f 0 ∷ f capacity_index ∷ f max_depth_index ∷ f retention_index ∷ f idle_index ∷ [] in
     let rest : Bool = installed_ok cfg i && words_eqb (later f t) (installed_words (f capacity_index) i) in
     let n : length t ≡ table_width + record_width * f capacity_index = length-append E (A ++ R) ∙ omega (arith, length-append A R) in
@@ -475,8 +474,8 @@ store_law f E A R hE hA hR small fitA fitR =
     five true = refl
     five false = refl
 
-    either : (b : Bool) {x y : Bool} → x ≡ words_eqb (later f (E ++ (A ++ R))) (installed_words (f capacity_index) none) → y ≡ is_image f (E ++ (A ++ R)) (generation_at f (E ++ (A ++ R))) →
-        let i : Option Generation = cond b none (some (generation_at f (E ++ (A ++ R)))) in
+    either : (b : Bool) {x y : Bool} → x ≡ words_eqb (later f (E ++ (A ++ R))) (installed_words (f capacity_index) None) → y ≡ is_image f (E ++ (A ++ R)) (generation_at f (E ++ (A ++ R))) →
+        let i : Option Generation = cond b None (Some (generation_at f (E ++ (A ++ R)))) in
         cond b x y ≡ (installed_ok (config_of f) i && words_eqb (later f (E ++ (A ++ R))) (installed_words (f capacity_index) i))
     either true p q = p
     either false p q = q

@@ -1,13 +1,13 @@
 -- Words and entries in bytes: where each stands.
 use Prim.Native.Nat.{ℕ, zero, suc, ◌+◌, ◌-◌, ◌*◌, ◌^◌, ◌≤◌, ◌<◌}
 use mathlib.Core.Path.{◌≡◌, refl, sym, ap, ap₂, ◌∙◌}
-use mathlib.Core.Bool.{Bool, true, ◌&&◌}
+use mathlib.Core.Bool.{Bool, ◌&&◌}
 use mathlib.Core.List.{List, [], ◌∷◌, ◌++◌, map}
 use native.Mathlib.Omega.{arith}
-use native.Mathlib.Numerals.{add-one}
 use lib.Dec.{eqb}
-use lib.ListN.{length, take, drop, get_or, length-drop, drop_of_length-le}
-use lib.Seq.{drop-drop, drop-cons, take-add, get_or-drop, take_at, drop_at}
+use Rattle.std.specs.List.{list_all, range_with_len}
+use lib.ListN.{length, take, drop, get_or, length-drop}
+use lib.Seq.{drop-drop, take-add, get_or-drop, take_at, drop_at}
 use borrow.Author.Tests.{ne_eqb}
 use Rattle.layout.specs.Layout.{awaiting_size, awaiting_width, record_size, record_width, slot_width}
 use Rattle.model.specs.declared.delta_snapshot.Slot.{Slot}
@@ -104,15 +104,6 @@ unfolding rows
 length_rows w zero s = refl
 length_rows w (suc n) s = ap suc (length_rows w n (drop (8 * w) s))
 
--- Entry i.
-pub row_at : (w n i : ℕ) (s : List ℕ) → i < n → get_or (rows w n s) i [] ≡ words_of w (drop (8 * w * i) s)
-unfolding rows
-row_at w zero i s h = absurd (omega arith)
-row_at w (suc n) zero s h = let e : 0 ≡ 8 * w * 0 = omega arith in ap (λ (k : ℕ). words_of w (drop k s)) e
-row_at w (suc n) (suc i) s h =
-    let e : 8 * w + 8 * w * i ≡ 8 * w * suc i = omega arith in
-    row_at w n i (drop (8 * w) s) (omega arith) ∙ ap (words_of w) (drop-drop (8 * w * i) (8 * w) s ∙ ap (λ (k : ℕ). drop k s) e)
-
 -- The first of more entries.
 pub take_rows : (w n k : ℕ) (s : List ℕ) → take n (rows w (n + k) s) ≡ rows w n s
 unfolding rows
@@ -121,14 +112,16 @@ take_rows w (suc n) k s =
     let e : suc n + k ≡ suc (n + k) = omega arith in
     ap (λ (x : ℕ). take (suc n) (rows w x s)) e ∙ ap (λ (l : List (List ℕ)). words_of w s ∷ l) (take_rows w n k (drop (8 * w) s))
 
--- A test of every entry, one entry more, and at the end.
-pub all_next : (p : List ℕ → Bool) (es : List (List ℕ)) (i : ℕ) → i < length es → all_of p (drop i es) ≡ (p (get_or es i []) && all_of p (drop (i + 1) es))
-unfolding all_of
-all_next p es i h = rw (add-one, drop-cons es i [])
+-- A test of every entry, by the numbers of the entries.
+all_numbered_from : (p : List ℕ → Bool) (w n i : ℕ) (s : List ℕ) → list_all (λ k. p (words_of w (drop (8 * w * k) s))) (range_with_len i n) ≡ all_of p (rows w n (drop (8 * w * i) s))
+unfolding all_of rows
+all_numbered_from p w zero i s = refl
+all_numbered_from p w (suc n) i s =
+    let e : 8 * w * i + 8 * w ≡ 8 * w * (i + 1) = omega arith in
+    ap (λ (t : Bool). p (words_of w (drop (8 * w * i) s)) && t) (all_numbered_from p w n (i + 1) s ∙ ap (λ (l : List ℕ). all_of p (rows w n l)) (sym (drop-drop (8 * w) (8 * w * i) s ∙ ap (λ (k : ℕ). drop k s) e)))
 
-pub all_end : (p : List ℕ → Bool) (es : List (List ℕ)) (i : ℕ) → length es ≤ i → all_of p (drop i es) ≡ true
-unfolding all_of
-all_end p es i h = rw (drop_of_length-le es h)
+pub all_numbered : (p : List ℕ → Bool) (w n : ℕ) (s : List ℕ) → list_all (λ k. p (words_of w (drop (8 * w * k) s))) (range_with_len 0 n) ≡ all_of p (rows w n s)
+all_numbered p w n s = let e : 8 * w * 0 ≡ 0 = omega arith in all_numbered_from p w n 0 s ∙ ap (λ (k : ℕ). all_of p (rows w n (drop k s))) e
 
 -- Slots -----------------------------------------------------------------------------------------------
 

@@ -1,4 +1,4 @@
--- One turn of each loop of the checks, and its end.
+-- Bytes, entries and ends as the checks go through them, one after the other.
 use Prim.Native.Nat.{ℕ, zero, suc, ◌+◌, ◌-◌, ◌*◌, ◌^◌, ◌≤◌, ◌<◌}
 use mathlib.Core.Path.{◌≡◌, refl, sym, ap, ap₂, ◌∙◌}
 use mathlib.Core.Bool.{Bool, true, ◌&&◌}
@@ -6,46 +6,45 @@ use mathlib.Core.List.{List, [], ◌∷◌}
 use native.Mathlib.Omega.{arith}
 use native.Mathlib.Numerals.{add-one}
 use native.Mathlib.Nat.{mul-le-mul_right}
+use lib.Bits.{bit_or}
+use Rattle.std.specs.List.{list_all, range_with_len, sum_by}
+use Rattle.std.proofs.lemmas.List.Sums.{sum_by-cons}
 use lib.Dec.{eqb, leb, ltb}
 use lib.ListN.{length, take, drop, get_or, length-drop, length-take, drop_of_length-le}
-use lib.Seq.{drop-drop, drop-cons, take-add, get_or-take, drop_at, slice-cons, length-take-le, take_all}
-use borrow.Author.Tests.{eq-eqb, ne_eqb, eqb-true, leb-true}
+use lib.Seq.{drop-drop, drop-cons, take-add, get_or-take, drop_at, length-take-le, take_all}
+use Rattle.std.specs.Int.Bits.{or_zero_l}
+use Rattle.std.proofs.lemmas.Nat.{le_or_l, le_or_r}
+use Rattle.std.proofs.lemmas.Bool.Decides.{nat_tests}
+use borrow.Author.Tests.{leb-true}
 use Rattle.layout.specs.Layout.{awaiting_size, awaiting_width, record_size, record_width, slot_width, waiters_index}
 use Rattle.model.specs.declared.delta_snapshot.Slot.{Slot}
 use Rattle.model.specs.Slots.{slot_ltb}
-use Rattle.model.proofs.SlotLaws.{split, and_left, and_right, and_true, not_both}
+use Rattle.model.proofs.SlotLaws.{and_left, and_right, and_true}
 use Rattle.image.specs.Image.{words_of, read_slot}
 use Rattle.checking.specs.Checks.{all_zero, all_of, ends_rise, awaiting_right, waiters_sum, entries_rise, layers_rise, rows, slots_of, slots_rise}
-use Rattle.checking.proofs.Bools.{drop_map}
-use Rattle.checking.proofs.Rows.{drop_words, zero_words, length_rows, row_at, all_next, take_rows, length_slots, slots_records, slots_entries}
+use Rattle.checking.proofs.Bools.{drop_map, and_assoc}
+use Rattle.checking.proofs.Rows.{drop_words, zero_words, length_rows, take_rows, length_slots, slots_records, slots_entries}
 use Rattle.checking.proofs.Cuts.{ends_rise_le}
 
 -- Zeros -----------------------------------------------------------------------------------------------
 
-pub zero_next : (s : List ℕ) (i to : ℕ) → i < to → to ≤ length s → all_zero (drop i (take to s)) ≡ (eqb (get_or s i 0) 0 && all_zero (drop (i + 1) (take to s)))
-unfolding all_zero
-zero_next s i to h k = rw (add-one, slice-cons i to s 0 h k)
+-- Two bytes have no bit exactly when both are 0.
+or_zero : (x y : ℕ) → eqb (bit_or x y) 0 ≡ (eqb x 0 && eqb y 0)
+or_zero x y = grind (arith, nat_tests, le_or_l x y, le_or_r x y, or_zero_l y)
 
-pub zero_end : (s : List ℕ) (i to m : ℕ) → to ≤ i → (eqb m 0 && all_zero (drop i (take to s))) ≡ eqb m 0
+pub zero_next : (l : List ℕ) (m i : ℕ) → i < length l → (eqb m 0 && all_zero (drop i l)) ≡ (eqb (bit_or m (get_or l i 0)) 0 && all_zero (drop (i + 1) l))
 unfolding all_zero
-zero_end s i to m h =
-    let k : length (take to s) ≤ i = simp length-take (omega arith) in
-    rw (drop_of_length-le (take to s) k) (and_true (eqb m 0))
+zero_next l m i h = rw (add-one, drop-cons l i 0 h, or_zero m (get_or l i 0)) (sym (and_assoc (eqb m 0) (eqb (get_or l i 0) 0) (all_zero (drop (suc i) l))))
 
--- Two bytes are 0 exactly when the larger is.
-pub zero_both : (m x r : ℕ) (b : Bool) → m ≤ r → x ≤ r → (m ≡ 0 → x ≡ 0 → r ≡ 0) → (eqb m 0 && (eqb x 0 && b)) ≡ (eqb r 0 && b)
-zero_both m x r b h k f =
-    split (eqb m 0)
-    (λ e. split (eqb x 0)
-    (λ d. rw (e, d, eq-eqb r 0 (f (eqb-true m 0 e) (eqb-true x 0 d))))
-    (λ d. rw (e, d, ne_eqb r 0 (λ z. let y : x ≡ 0 = omega arith in not_both (eq-eqb x 0 y) d))))
-    (λ e. rw (e, ne_eqb r 0 (λ z. let y : m ≡ 0 = omega arith in not_both (eq-eqb m 0 y) e)))
+pub zero_end : (l : List ℕ) (m i : ℕ) → length l ≤ i → (eqb m 0 && all_zero (drop i l)) ≡ eqb m 0
+unfolding all_zero
+zero_end l m i h = rw (drop_of_length-le l h) (and_true (eqb m 0))
 
 -- The bytes of the words from number m on.
-drop_take : {A : Type 0} (from m : ℕ) (s : List A) → from ≤ length s → drop from (take (from + m) s) ≡ take m (drop from s)
+pub drop_take : {A : Type 0} (from m : ℕ) (s : List A) → from ≤ length s → drop from (take (from + m) s) ≡ take m (drop from s)
 drop_take from m s h = ap (drop from) (take-add from m s) ∙ drop_at (take from s) (take m (drop from s)) from (length-take-le from s h)
 
-zero_range : (n from to : ℕ) (s : List ℕ) → to ≡ from + 8 * n → to ≤ length s → all_zero (drop from (take to s)) ≡ all_zero (words_of n (drop from s))
+pub zero_range : (n from to : ℕ) (s : List ℕ) → to ≡ from + 8 * n → to ≤ length s → all_zero (drop from (take to s)) ≡ all_zero (words_of n (drop from s))
 zero_range n from to s e h =
     ap (λ (k : ℕ). all_zero (drop from (take k s))) e ∙ ap all_zero (drop_take from (8 * n) s (omega arith)) ∙ sym (zero_words n (drop from s))
 
@@ -68,13 +67,17 @@ slot_next wide (suc n) (suc i) s h =
     slot_next wide n i (drop wide s) (omega arith)
     ∙ ap (λ (l : List ℕ). read_slot (words_of slot_width l) ∷ drop (suc i) (slots_of wide n (drop wide s))) (drop-drop (i * wide) wide s ∙ ap (λ (k : ℕ). drop k s) e)
 
-pub rise_next : (wide n i : ℕ) (s : List ℕ) → i + 1 < n → slots_rise (drop i (slots_of wide n s)) ≡ (slot_ltb (read_slot (words_of slot_width (drop (i * wide) s))) (read_slot (words_of slot_width (drop ((i + 1) * wide) s))) && slots_rise (drop (i + 1) (slots_of wide n s)))
+-- The slot of entry k.
+abbrev pub slot_at : ℕ → List ℕ → ℕ → Slot
+slot_at wide s k = read_slot (words_of slot_width (drop (k * wide) s))
+
+rise_next : (wide n i : ℕ) (s : List ℕ) → i + 1 < n → slots_rise (drop i (slots_of wide n s)) ≡ (slot_ltb (slot_at wide s i) (slot_at wide s (i + 1)) && slots_rise (drop (i + 1) (slots_of wide n s)))
 unfolding slots_rise
 rise_next wide n i s h =
-    let p : drop i (slots_of wide n s) ≡ read_slot (words_of slot_width (drop (i * wide) s)) ∷ drop (i + 1) (slots_of wide n s) = slot_next wide n i s (omega arith) ∙ rw add-one in
-    let q : drop (i + 1) (slots_of wide n s) ≡ read_slot (words_of slot_width (drop ((i + 1) * wide) s)) ∷ drop (suc (i + 1)) (slots_of wide n s) = slot_next wide n (i + 1) s h in
-    let a : Slot = read_slot (words_of slot_width (drop (i * wide) s)) in
-    let b : Slot = read_slot (words_of slot_width (drop ((i + 1) * wide) s)) in
+    let p : drop i (slots_of wide n s) ≡ slot_at wide s i ∷ drop (i + 1) (slots_of wide n s) = slot_next wide n i s (omega arith) ∙ rw add-one in
+    let q : drop (i + 1) (slots_of wide n s) ≡ slot_at wide s (i + 1) ∷ drop (suc (i + 1)) (slots_of wide n s) = slot_next wide n (i + 1) s h in
+    let a : Slot = slot_at wide s i in
+    let b : Slot = slot_at wide s (i + 1) in
     ap slots_rise (p ∙ ap (λ (l : List Slot). a ∷ l) q) ∙ ap (λ (l : List Slot). slot_ltb a b && slots_rise l) (sym q)
 
 few_rise : (l : List Slot) → length l ≤ 1 → slots_rise l ≡ true
@@ -83,8 +86,13 @@ few_rise [] h = refl
 few_rise (a ∷ []) h = refl
 few_rise (a ∷ b ∷ l) h = absurd (omega arith)
 
-pub rise_end : (wide n i : ℕ) (s : List ℕ) → n ≤ i + 1 → slots_rise (drop i (slots_of wide n s)) ≡ true
+rise_end : (wide n i : ℕ) (s : List ℕ) → n ≤ i + 1 → slots_rise (drop i (slots_of wide n s)) ≡ true
 rise_end wide n i s h = few_rise (drop i (slots_of wide n s)) (omega (arith, length-drop i (slots_of wide n s), length_slots wide n s))
+
+-- Slots rise exactly when each of them but the last comes before the next one.
+pub rise_numbered : (wide n m i : ℕ) (s : List ℕ) → n - 1 - i ≡ m → list_all (λ k. slot_ltb (slot_at wide s k) (slot_at wide s (k + 1))) (range_with_len i m) ≡ slots_rise (drop i (slots_of wide n s))
+rise_numbered wide n zero i s e = sym (rise_end wide n i s (omega arith))
+rise_numbered wide n (suc m) i s e = ap (λ (t : Bool). slot_ltb (slot_at wide s i) (slot_at wide s (i + 1)) && t) (rise_numbered wide n m (i + 1) s (omega arith)) ∙ sym (rise_next wide n i s (omega arith))
 
 -- An entry stands within the bytes of all.
 pub entry_room : (wide n i : ℕ) → i < n → i * wide + wide ≤ n * wide
@@ -102,12 +110,11 @@ entries_few wide (suc n) h =
 
 -- Ends ------------------------------------------------------------------------------------------------
 
-pub ends_next : (n from k d x : ℕ) (l : List ℕ) → k ≤ d → d < length l → x ≡ get_or l k 0 → ends_rise n from (drop k (take (suc d) l)) ≡ (leb from x && ends_rise n x (drop (k + 1) (take (suc d) l)))
+pub ends_next : (n from k d : ℕ) (l : List ℕ) → k ≤ d → d < length l → ends_rise n from (drop k (take (suc d) l)) ≡ (leb from (get_or l k 0) && ends_rise n (get_or l k 0) (drop (k + 1) (take (suc d) l)))
 unfolding ends_rise
-ends_next n from k d x l h j e =
+ends_next n from k d l h j =
     let p : k < length (take (suc d) l) = omega (arith, length-take-le (suc d) l (omega arith)) in
-    let q : get_or (take (suc d) l) k 0 ≡ x = get_or-take (suc d) l k 0 (omega arith) ∙ sym e in
-    rw (add-one, drop-cons (take (suc d) l) k 0 p, q)
+    rw (add-one, drop-cons (take (suc d) l) k 0 p, get_or-take (suc d) l k 0 (omega arith))
 
 pub ends_end : (n from k d : ℕ) (l : List ℕ) → suc d ≤ k → ends_rise n from (drop k (take (suc d) l)) ≡ leb from n
 unfolding ends_rise
@@ -117,38 +124,29 @@ ends_end n from k d l h =
 
 -- Entries ---------------------------------------------------------------------------------------------
 
-pub row_next : (w n i : ℕ) (p : List ℕ → Bool) (s : List ℕ) → i < n → all_of p (drop i (rows w n s)) ≡ (p (words_of w (drop (8 * w * i) s)) && all_of p (drop (i + 1) (rows w n s)))
-row_next w n i p s h =
-    all_next p (rows w n s) i (omega (arith, length_rows w n s))
-    ∙ ap (λ (e : List ℕ). p e && all_of p (drop (i + 1) (rows w n s))) (row_at w n i s h)
+-- The waiters of awaiting slot k, and of all slots by their numbers.
+abbrev pub waiters_at : List ℕ → ℕ → ℕ
+waiters_at s k = get_or (words_of awaiting_width (drop (awaiting_size * k) s)) waiters_index 0
 
-pub all_of_at : (p : List ℕ → Bool) (es : List (List ℕ)) (i : ℕ) → i < length es → all_of p es ≡ true → p (get_or es i []) ≡ true
-unfolding all_of
-all_of_at p [] i h e = absurd (omega arith)
-all_of_at p (x ∷ es) zero h e = and_left (p x) _ e
-all_of_at p (x ∷ es) (suc i) h e = all_of_at p es i (omega arith) (and_right (p x) _ e)
+waiters_from : (n i : ℕ) (s : List ℕ) → sum_by (waiters_at s) (range_with_len i n) ≡ waiters_sum (rows awaiting_width n (drop (awaiting_size * i) s))
+unfolding waiters_sum rows
+waiters_from zero i s = refl
+waiters_from (suc n) i s =
+    let e : awaiting_size * i + awaiting_size ≡ awaiting_size * (i + 1) = omega arith in
+    sum_by-cons (waiters_at s) i (range_with_len (i + 1) n)
+    ∙ ap (λ (w : ℕ). waiters_at s i + w) (waiters_from n (i + 1) s ∙ ap (λ (l : List ℕ). waiters_sum (rows awaiting_width n l)) (sym (drop-drop awaiting_size (awaiting_size * i) s ∙ ap (λ (k : ℕ). drop k s) e)))
 
-pub waiters_next : (n i x : ℕ) (s : List ℕ) → i < n → x ≡ get_or (words_of awaiting_width (drop (awaiting_size * i) s)) waiters_index 0 → waiters_sum (drop i (rows awaiting_width n s)) ≡ x + waiters_sum (drop (i + 1) (rows awaiting_width n s))
-unfolding waiters_sum
-waiters_next n i x s h e =
-    let p : i < length (rows awaiting_width n s) = omega (arith, length_rows awaiting_width n s) in
-    let q : get_or (get_or (rows awaiting_width n s) i []) waiters_index 0 ≡ x = ap (λ (r : List ℕ). get_or r waiters_index 0) (row_at awaiting_width n i s h) ∙ sym e in
-    rw (add-one, drop-cons (rows awaiting_width n s) i [] p, q)
+pub waiters_numbered : (n : ℕ) (s : List ℕ) → sum_by (waiters_at s) (range_with_len 0 n) ≡ waiters_sum (rows awaiting_width n s)
+waiters_numbered n s = let e : awaiting_size * 0 ≡ 0 = omega arith in waiters_from n 0 s ∙ ap (λ (k : ℕ). waiters_sum (rows awaiting_width n (drop k s))) e
 
-pub waiters_end : (n i : ℕ) (s : List ℕ) → n ≤ i → waiters_sum (drop i (rows awaiting_width n s)) ≡ 0
-unfolding waiters_sum
-waiters_end n i s h =
-    let p : length (rows awaiting_width n s) ≤ i = omega (arith, length_rows awaiting_width n s) in
-    rw (drop_of_length-le (rows awaiting_width n s) p)
-
--- A right awaiting slot has few waiters.
-pub waiters_few : (n i x : ℕ) (s : List ℕ) → i < n → x ≡ get_or (words_of awaiting_width (drop (awaiting_size * i) s)) waiters_index 0 → all_of awaiting_right (rows awaiting_width n s) ≡ true → x ≤ 4294967295
-unfolding awaiting_right
-waiters_few n i x s h e a =
-    let r : List ℕ = words_of awaiting_width (drop (awaiting_size * i) s) in
-    let p : awaiting_right r ≡ true = ap awaiting_right (sym (row_at awaiting_width n i s h)) ∙ all_of_at awaiting_right (rows awaiting_width n s) i (omega (arith, length_rows awaiting_width n s)) a in
-    let q : leb (get_or r waiters_index 0) 4294967295 ≡ true = and_left (leb (get_or r waiters_index 0) 4294967295) _ (and_right (ltb 0 (get_or r waiters_index 0)) _ (and_right (ltb (get_or r 0 0) (2 ^ 32)) _ p)) in
-    omega (arith, leb-true (get_or r waiters_index 0) 4294967295 q)
+-- Right awaiting slots have few waiters.
+pub waiters_few : (es : List (List ℕ)) → all_of awaiting_right es ≡ true → waiters_sum es ≤ 4294967295 * length es
+unfolding awaiting_right all_of waiters_sum
+waiters_few [] a = omega arith
+waiters_few (e ∷ es) a =
+    let p : awaiting_right e ≡ true = and_left (awaiting_right e) _ a in
+    let q : leb (get_or e waiters_index 0) 4294967295 ≡ true = and_left (leb (get_or e waiters_index 0) 4294967295) _ (and_right (ltb 0 (get_or e waiters_index 0)) _ (and_right (ltb (get_or e 0 0) (2 ^ 32)) _ p)) in
+    omega (arith, leb-true (get_or e waiters_index 0) 4294967295 q, waiters_few es (and_right (awaiting_right e) _ a))
 
 -- Layers ----------------------------------------------------------------------------------------------
 
@@ -165,13 +163,13 @@ run_rises n from to s h k =
     ∙ sym (slots_entries (drop from (rows record_width to s)))
     ∙ ap slots_rise (sym (drop_map read_slot from (rows record_width to s)) ∙ ap (drop from) (sym (slots_records to s)))
 
-pub layers_next : (n from k d x : ℕ) (l s : List ℕ) → k ≤ d → d < length l → x ≡ get_or l k 0 → from ≤ x → x ≤ n →
-    layers_rise from (drop k (take (suc d) l)) (drop from (rows record_width n s)) ≡ (slots_rise (drop from (slots_of record_size x s)) && layers_rise x (drop (k + 1) (take (suc d) l)) (drop x (rows record_width n s)))
+pub layers_next : (n from k d : ℕ) (l s : List ℕ) → k ≤ d → d < length l → from ≤ get_or l k 0 → get_or l k 0 ≤ n →
+    layers_rise from (drop k (take (suc d) l)) (drop from (rows record_width n s)) ≡ (slots_rise (drop from (slots_of record_size (get_or l k 0) s)) && layers_rise (get_or l k 0) (drop (k + 1) (take (suc d) l)) (drop (get_or l k 0) (rows record_width n s)))
 unfolding layers_rise
-layers_next n from k d x l s h j e a b =
+layers_next n from k d l s h j a b =
+    let x = get_or l k 0 in
     let p : k < length (take (suc d) l) = omega (arith, length-take-le (suc d) l (omega arith)) in
-    let q : get_or (take (suc d) l) k 0 ≡ x = get_or-take (suc d) l k 0 (omega arith) ∙ sym e in
-    let c : drop k (take (suc d) l) ≡ x ∷ drop (k + 1) (take (suc d) l) = rw (add-one, drop-cons (take (suc d) l) k 0 p, q) in
+    let c : drop k (take (suc d) l) ≡ x ∷ drop (k + 1) (take (suc d) l) = rw (add-one, drop-cons (take (suc d) l) k 0 p, get_or-take (suc d) l k 0 (omega arith)) in
     let m : from + (x - from) ≡ x = omega arith in
     ap (λ (es : List ℕ). layers_rise from es (drop from (rows record_width n s))) c
     ∙ ap₂ (λ (t : Bool) (es : List (List ℕ)). t && layers_rise x (drop (k + 1) (take (suc d) l)) es) (run_rises n from x s a b) (drop-drop (x - from) from (rows record_width n s) ∙ ap (λ (i : ℕ). drop i (rows record_width n s)) m)
@@ -189,8 +187,9 @@ pub record Next (n from x : ℕ) (es : List ℕ) : Type 0 where
   pub low : x ≤ n
   pub later : ends_rise n x es ≡ true
 
-pub next_end : (n from k d x : ℕ) (l : List ℕ) → k ≤ d → d < length l → x ≡ get_or l k 0 → ends_rise n from (drop k (take (suc d) l)) ≡ true → Next n from x (drop (k + 1) (take (suc d) l))
-next_end n from k d x l h j e r =
-    let p : (leb from x && ends_rise n x (drop (k + 1) (take (suc d) l))) ≡ true = sym (ends_next n from k d x l h j e) ∙ r in
+pub next_end : (n from k d : ℕ) (l : List ℕ) → k ≤ d → d < length l → ends_rise n from (drop k (take (suc d) l)) ≡ true → Next n from (get_or l k 0) (drop (k + 1) (take (suc d) l))
+next_end n from k d l h j r =
+    let x = get_or l k 0 in
+    let p : (leb from x && ends_rise n x (drop (k + 1) (take (suc d) l))) ≡ true = sym (ends_next n from k d l h j) ∙ r in
     let q : ends_rise n x (drop (k + 1) (take (suc d) l)) ≡ true = and_right (leb from x) _ p in
     record { up = leb-true from x (and_left (leb from x) _ p); low = ends_rise_le n x _ q; later = q }

@@ -1,17 +1,16 @@
 -- What the walk gathers of a slot: whether it has a value, and its freshest use.
+use Rattle.std.specs.Prelude.{None, Option, Some, is_some}
 use mathlib.Core.Path.{◌≡◌, refl, sym, ap₂, ◌∙◌}
 use mathlib.Core.Bool.{Bool, true, false, not, ◌&&◌, ◌||◌, true≢false}
 use mathlib.Core.List.{List}
-use mathlib.Core.Option.{Option, some, none}
 use Prim.Native.Nat.{ℕ, ◌*◌, ◌≤◌, max}
 use native.Mathlib.Omega.{arith}
-use lib.Dec.{leb, ltb}
+use lib.Dec.{ltb}
 use lib.ListN.{length, get_or}
-use borrow.Author.Tests.{ltb-true, ltb-false, le-leb, lt-leb}
 use Rattle.layout.specs.Layout.{record_size}
 use Rattle.model.specs.declared.delta_snapshot.Retention.{Retention}
 use Rattle.model.specs.Slots.{Value, LastUse, serves}
-use Rattle.model.specs.Contents.{is_some, use_of, has_value}
+use Rattle.model.specs.Contents.{use_of, has_value}
 use Rattle.model.specs.Layers.{Record, Layer, resolved_through_policy}
 use Rattle.model.proofs.SlotLaws.{split}
 use Rattle.image.specs.Area.{records_of}
@@ -50,13 +49,10 @@ abbrev pub served : ℕ → Bool → ℕ → Bool
 served least any low = any && not (ltb low least)
 
 pub served_is : (R : Retention) (now : ℕ) (f : Option LastUse) (h : Option Value) → (is_some h ≡ true → is_some f ≡ true) → served (oldest_use R now) (is_some h) (or_zero f) ≡ is_some (resolved_through_policy R now f h)
-served_is R now none none q = refl
-served_is R now none (some v) q = absurd (true≢false (sym (q refl)))
-served_is R now (some u) none q = split (serves R u now) (λ e. rw e) (λ e. rw e)
-served_is R now (some u) (some v) q = sym (serves_oldest R u now) ∙ split (serves R u now) (λ e. rw e) (λ e. rw e)
-
-pub served_any : (least low : ℕ) (any : Bool) → any ≡ true → leb least low ≡ served least any low
-served_any least low any e = rw e (split (ltb low least) (λ d. rw d (lt-leb least low (ltb-true low least d))) (λ d. rw d (le-leb least low (ltb-false low least d))))
+served_is R now None None q = refl
+served_is R now None (Some v) q = absurd (true≢false (sym (q refl)))
+served_is R now (Some u) None q = split (serves R u now) (λ e. rw e) (λ e. rw e)
+served_is R now (Some u) (Some v) q = sym (serves_oldest R u now) ∙ split (serves R u now) (λ e. rw e) (λ e. rw e)
 
 -- The two walks.
 module _ (n : ℕ) (s ix : List ℕ) (b : Bytes s) (h : n * record_size ≤ length s) (o : Ordered (numbers n s) (up_from 0 n) ix) where

@@ -1,13 +1,12 @@
 -- What the counts over records as they stand are for layers that rise.
+use Rattle.std.specs.Prelude.{Option, is_some}
 use mathlib.Core.Path.{◌≡◌, refl, sym, ap, ap₂, ◌∙◌}
 use mathlib.Core.Bool.{Bool, true, ◌||◌}
 use mathlib.Core.List.{List, [], ◌∷◌, ◌++◌}
-use mathlib.Core.Option.{Option}
 use Prim.Native.Nat.{ℕ}
 use Rattle.model.specs.declared.delta_snapshot.Slot.{Slot}
 use Rattle.model.specs.declared.delta_snapshot.Retention.{Retention}
 use Rattle.model.specs.Slots.{Value, LastUse, mem}
-use Rattle.model.specs.Contents.{is_some}
 use Rattle.model.specs.Layers.{Layer, slots, all_slots, resolved_through_policy, held_value, freshest_use, held_count, live_count, count_distinct}
 use Rattle.model.proofs.SlotLaws.{and_left}
 use Rattle.model.proofs.LayerLaws.{mem_append}

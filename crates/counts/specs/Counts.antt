@@ -1,7 +1,6 @@
 -- Held and live, over the records as they stand: the lowest layer's first, the top's last.
-use Rattle.std.specs.Prelude.{ℕ}
+use Rattle.std.specs.Prelude.{ℕ, is_some}
 use Rattle.model.specs.declared.delta_snapshot.Retention.{Retention}
-use Rattle.model.specs.Contents.{is_some}
 use Rattle.model.specs.Layers.{Layer, slots, resolved_through_policy, count_distinct}
 use Rattle.rules.specs.Rules.{group, newest_value, freshest}
 

@@ -4,10 +4,12 @@
 ghost use Rattle.std.specs.Prelude.{◌≡◌, not, ◌&&◌, ◌*◌, ◌≤◌, ltb, length};
 ghost use Rattle.layout.specs.Layout.{record_size};
 ghost use Rattle.image.specs.Area.{records_of};
-ghost use Rattle.order.specs.Index.{numbers, Ordered, up_from};
+ghost use Rattle.order.specs.Index.{Ordered, up_from};
+ghost use Rattle.order.specs.Lent.{all_of, slots_of};
 ghost use Rattle.counts.specs.Counts.{held_in, live_in};
 
 use model::delta_snapshot::Retention;
+use order::Records;
 
 // Both counts.
 #[derive(Clone, Copy)]
@@ -20,34 +22,28 @@ pub struct Counts {
 pub fn served(least: u64, any: bool, low: u64) -> bool
     ensures { result ≡ (any && not (ltb low least)) }
 {
-    if any {
-        return least <= low;
-    }
-    false
+    any && least <= low
 }
 
 // Both counts, by the index of the records.
-fn walk(s: &[u8], n: usize, retention: Retention, number: u64, ix: &[usize]) -> Counts
-    requires { (n * record_size ≤ length s.now) × Ordered (numbers n s.now) (up_from 0 n) ix.now }
-    ensures { (result.held ≡ held_in (records_of n s.now)) × (result.live ≡ live_in retention number (records_of n s.now)) }
+fn walk(records: Records, retention: Retention, number: u64, ix: &[usize]) -> Counts
+    requires { Ordered (slots_of records) (up_from 0 records.count) ix.now }
+    ensures { (result.held ≡ held_in (all_of records.entry)) × (result.live ≡ live_in retention number (all_of records.entry)) }
 {
     let least = rules::oldest(retention, number);
     let mut held = 0;
     let mut live = 0;
     let mut any = false;
-    let mut low = 0;
-    let mut j = 0;
-    while j < ix.len() {
-        let i = ix[j];
-        any = order::either(any, order::valued(s, n, i));
-        low = order::larger(low, order::last_use(s, n, i));
-        if order::ends(s, n, ix, j) {
-            held += order::bit(any);
-            live += order::bit(served(least, any, low));
+    let mut low: u64 = 0;
+    for (j, &i) in ix.iter().enumerate() {
+        any |= records.valued(i);
+        low = low.max(records.last_use(i));
+        if records.ends(ix, j) {
+            held += usize::from(any);
+            live += usize::from(served(least, any, low));
             any = false;
             low = 0;
         }
-        j += 1;
     }
     Counts { held, live }
 }
@@ -59,6 +55,7 @@ pub fn held_and_live(s: &[u8], n: usize, retention: Retention, number: u64) -> C
 {
     let mut a = [0usize; 4096];
     let mut b = [0usize; 4096];
-    order::order(s, n, &mut a[0..n], &mut b[0..n]);
-    walk(s, n, retention, number, &b[0..n])
+    let records = Records { bytes: s, count: n };
+    records.order(&mut a[0..n], &mut b[0..n]);
+    walk(records, retention, number, &b[0..n])
 }

@@ -1,7 +1,7 @@
 // Numbers, slots and bytes of a listing, written into a lent output at a place. Each function that writes returns the next place.
 #![tactic(auto)]
 
-ghost use Rattle.std.specs.Prelude.{◌≡◌, [], ◌∷◌, ◌+◌, ◌≤◌, ◌<◌, length, drop};
+ghost use Rattle.std.specs.Prelude.{◌≡◌, [], ◌∷◌, ◌+◌, ◌≤◌, ◌<◌, length};
 ghost use Rattle.call_list.specs.Listing.{digit, decimal, hex, u256_hex, slot_hex};
 ghost use Rattle.digits.specs.Written.{Written};
 
@@ -25,10 +25,9 @@ pub fn write_bytes(out: &mut [u8], at: usize, text: &[u8]) -> usize
     at + text.len()
 }
 
-// A number in decimals at the end of a buffer; returns where it starts.
-fn fill_decimal(buffer: &mut [u8], n: u64) -> usize
-    requires { length buffer.old ≡ 20 }
-    ensures { (result < 20) × (drop result buffer.new ≡ decimal n) }
+// A number in decimals, at the end of a buffer.
+fn fill_decimal(buffer: &mut [u8; 20], n: u64) -> &[u8]
+    ensures { result.now ≡ decimal n }
 {
     let mut k: usize = 20;
     let mut rest = n;
@@ -39,7 +38,7 @@ fn fill_decimal(buffer: &mut [u8], n: u64) -> usize
     }
     k -= 1;
     buffer[k] = digit(rest);
-    k
+    &buffer[k..]
 }
 
 // A number in decimals.
@@ -48,8 +47,7 @@ pub fn write_decimal(out: &mut [u8], at: usize, n: u64) -> usize
     ensures { Written at (decimal n) out.old out.new result }
 {
     let mut buffer = [0u8; 20];
-    let start = fill_decimal(&mut buffer, n);
-    write_bytes(out, at, &buffer[start..])
+    write_bytes(out, at, fill_decimal(&mut buffer, n))
 }
 
 // A number in n lower-case hex digits.
@@ -57,10 +55,8 @@ fn write_hex(out: &mut [u8], at: usize, n: usize, x: u64) -> usize
     requires { at + n ≤ length out.old }
     ensures { Written at (hex n x) out.old out.new result }
 {
-    let mut k = n;
     let mut rest = x;
-    while 0 < k {
-        k -= 1;
+    for k in (0..n).rev() {
         out[at + k] = digit(rest % 16);
         rest /= 16;
     }
@@ -78,19 +74,13 @@ pub fn write_u256(out: &mut [u8], at: usize, x: U256) -> usize
     write_hex(out, fourth, 16, x.w3)
 }
 
-fn wide(x: u32) -> u64
-    ensures { result ≡ x }
-{
-    x as u64
-}
-
 // A slot in 104 hex digits.
 pub fn write_slot(out: &mut [u8], at: usize, s: Slot) -> usize
     requires { at + 104 ≤ length out.old }
     ensures { Written at (slot_hex s) out.old out.new result }
 {
     let address = s.address;
-    let second = write_hex(out, at, 8, wide(address.w0));
+    let second = write_hex(out, at, 8, u64::from(address.w0));
     let third = write_hex(out, second, 16, address.w1);
     let index = write_hex(out, third, 16, address.w2);
     write_u256(out, index, s.index)

@@ -2,3 +2,4 @@
 pub mod Placing
 pub mod Numbers
 pub mod Lists
+pub mod Chunks

@@ -1,8 +1,8 @@
 -- Bytes placed one after the other, and the bytes of an address, a number, a slot and a write placed so. Assumes nothing.
 use mathlib.Core.Path.{◌≡◌, sym, ap, ap₂, ◌∙◌}
-use mathlib.Core.List.{List, [], ◌∷◌, ◌++◌, append_assoc, append-nil}
-use Prim.Native.Nat.{ℕ, ◌+◌, ◌/◌, ◌%◌, ◌^◌, ◌≤◌}
-use native.Mathlib.Nat.{add-zero, div-div-eq-div-mul}
+use mathlib.Core.List.{List, [], ◌++◌, append_assoc, append-nil}
+use Prim.Native.Nat.{ℕ, ◌+◌, ◌≤◌}
+use native.Mathlib.Nat.{add-zero}
 use native.Mathlib.Omega.{arith}
 use lib.ListN.{length, take, drop, length-append, take-append-drop}
 use lib.Seq.{take_at, drop_at, drop-drop, length-take-le}
@@ -38,11 +38,6 @@ placed_next at x a b s e h =
 placed_both : (at n : ℕ) (a b s s₁ s₂ : List ℕ) → length a ≡ n → at ≤ length s → s₁ ≡ placed at a s → s₂ ≡ placed (at + n) b s₁ → s₂ ≡ placed at (a ++ b) s
 placed_both at n a b s s₁ s₂ e h p q =
     q ∙ ap (placed (at + n) b) p ∙ placed_next at (at + n) a b s (ap (λ (k : ℕ). at + k) (sym e)) h
-
--- The four bytes of a number, one by one.
-pub be4_is : (x : ℕ) → ◌≡◌ {A = List ℕ} (x / 2 ^ 24 % 256 ∷ x / 2 ^ 16 % 256 ∷ x / 2 ^ 8 % 256 ∷ x % 256 ∷ []) (be 4 x)
-unfolding be
-be4_is x = simp div-div-eq-div-mul
 
 -- A slot's bytes are its address's and its index's.
 slot_parts : (o : Slot) → address_bytes o.address ++ u256_bytes o.index ≡ slot_bytes o

@@ -30,7 +30,7 @@ pub fn read_address(s: &[u8], at: usize) -> Address
     ensures { result ≡ address_of (drop at s.now) }
 {
     Address {
-        w0: words::half(s, at) as u32,
+        w0: words::read_u32(s, at),
         w1: words::read_u64(s, at + 4),
         w2: words::read_u64(s, at + 12),
     }
@@ -52,13 +52,9 @@ pub fn is_address(s: &[u8], at: usize, address: Address) -> bool
     requires { at + 20 ≤ length s.now }
     ensures { result ≡ address_eqb (address_of (drop at s.now)) address }
 {
-    if words::read_u64(s, at + 12) != address.w2 {
-        return false;
-    }
-    if words::read_u64(s, at + 4) != address.w1 {
-        return false;
-    }
-    words::half(s, at) as u32 == address.w0
+    words::read_u64(s, at + 12) == address.w2
+        && words::read_u64(s, at + 4) == address.w1
+        && words::read_u32(s, at) == address.w0
 }
 
 // The four bytes of x at `at`.
@@ -66,13 +62,7 @@ fn write_u32(s: &mut [u8], at: usize, x: u32)
     requires { at + 4 ≤ length s.old }
     ensures { s.new ≡ placed at (be 4 x) s.old }
 {
-    let bytes = [
-        (x / 0x100_0000 % 256) as u8,
-        (x / 0x1_0000 % 256) as u8,
-        (x / 0x100 % 256) as u8,
-        (x % 256) as u8,
-    ];
-    words::place(s, at, &bytes);
+    s[at..at + 4].copy_from_slice(&x.to_be_bytes());
 }
 
 // The bytes of an address at `at`.

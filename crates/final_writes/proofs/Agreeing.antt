@@ -1,7 +1,7 @@
 -- Sums of counts, and whether they agree with the lengths lent. Assumes nothing.
 use mathlib.Core.Path.{◌≡◌, refl, sym, ap, ap₂, ◌∙◌}
 use mathlib.Core.List.{List, map}
-use mathlib.Core.Bool.{Bool, true, false, not, ◌||◌}
+use mathlib.Core.Bool.{Bool, true, false, not, ◌&&◌, ◌||◌}
 use Prim.Native.Nat.{ℕ, ◌+◌, ◌*◌, ◌/◌, ◌<◌}
 use native.Mathlib.Numerals.{add-one}
 use lib.Dec.{eqb}
@@ -52,17 +52,14 @@ module _ (accounts slots changes reads : List ℕ) where
       ap₂ eqb (ap sum (map_entries (λ a. a.reads) read_account 36 (length accounts / 36) accounts)) (length_entries (u256_at 0) 32 (length reads / 32) reads) in
       ap₂ (λ (x y : Bool). not x || y) s (ap₂ (λ (x y : Bool). not x || not y) c r)
 
-  pub slots_differ : slots_agree ≡ false → false ≡ not (counts_differ (lent_lists accounts slots changes reads))
-  slots_differ e = sym (ap not (counts_are ∙ ap (λ (x : Bool). not x || (not changes_agree || not reads_agree)) e))
-
-  pub changes_differ : slots_agree ≡ true → changes_agree ≡ false → false ≡ not (counts_differ (lent_lists accounts slots changes reads))
-  changes_differ e f = sym (ap not (counts_are ∙ ap₂ (λ (x y : Bool). not x || (not y || not reads_agree)) e f))
-
-  pub reads_decide : slots_agree ≡ true → changes_agree ≡ true → reads_agree ≡ not (counts_differ (lent_lists accounts slots changes reads))
-  reads_decide e f = sym (not_not reads_agree) ∙ sym (ap not (counts_are ∙ ap₂ (λ (x y : Bool). not x || (not y || not reads_agree)) e f)) where
-    not_not : (t : Bool) → not (not t) ≡ t
-    not_not true = refl
-    not_not false = refl
+  -- As three tests answer.
+  pub agree_is : (slots_agree && changes_agree && reads_agree) ≡ not (counts_differ (lent_lists accounts slots changes reads))
+  agree_is = all_hold slots_agree changes_agree reads_agree ∙ sym (ap not counts_are) where
+    all_hold : (x y z : Bool) → (x && y && z) ≡ not (not x || (not y || not z))
+    all_hold true true true = refl
+    all_hold true true false = refl
+    all_hold true false z = refl
+    all_hold false y z = refl
 
   -- Counts that don't differ.
   pub agree : counts_differ (lent_lists accounts slots changes reads) ≡ false → (slots_agree ≡ true) × (changes_agree ≡ true) × (reads_agree ≡ true)

@@ -1,18 +1,20 @@
 -- The outcome of a call: a refusal, or the seed of all accounts walked. Assumes nothing.
+use Rattle.std.specs.Prelude.{None, Option, Some, Ok, Err}
 use mathlib.Core.Path.{◌≡◌, refl, sym, ap, ap₂, subst, ◌∙◌}
 use mathlib.Core.Bool.{Bool, true, false, cond, ◌||◌}
 use mathlib.Core.List.{List, [], ◌∷◌, map}
-use mathlib.Core.Option.{Option, some, none}
 use Prim.Native.Nat.{ℕ, suc, ◌+◌, ◌-◌, ◌*◌, ◌/◌, ◌≤◌, ◌<◌, min}
 use native.Mathlib.Nat.{zero-add, zero-mul, sub-zero}
 use native.Mathlib.Omega.{arith}
 use lib.Dec.{ltb}
 use lib.ListN.{length, take, drop, length-map, length-take}
 use lib.Seq.{take_all}
-use borrow.Author.Tests.{eqb-true, lt-ltb, le-ltb, ltb-true, ltb-false}
+use borrow.Author.Tests.{eqb-true, le-ltb, ltb-true, ltb-false}
 use Rattle.model.specs.declared.storage_memo.U256.{U256}
 use Rattle.model.specs.Numbers.{Bytes}
-use Rattle.model.specs.Refusals.{first_that_holds}
+use Rattle.model.specs.Refusals.{first_that_holds, refusal_number}
+use Rattle.model.specs.declared.refusal.Refusal.{Refusal}
+use Rattle.model.specs.declared.refusal.Refusal.TheVariants.{CountsDiffer, LentTooShort}
 use Rattle.model.specs.Entries.{u256_at, write_of, chunks, slot_bytes, first_slots}
 use Rattle.model.proofs.SlotLaws.{split}
 use Rattle.model.proofs.EntryLaws.{length_slot}
@@ -20,8 +22,7 @@ use Rattle.words.specs.Parts.{placed}
 use Rattle.entries.specs.Bytes.{write_bytes}
 use Rattle.entries.proofs.Lists.{map_entries, length_entries}
 use Rattle.entries.proofs.Placing.{length_write_bytes}
-use Rattle.bal_plan.specs.declared.Cap.{Cap}
-use Rattle.bal_plan.specs.Plan.{BalPlan, within_cap, cap_of, plan_of, limit_of}
+use Rattle.bal_plan.specs.Plan.{BalPlan, within_cap, plan_of, limit_of}
 use Rattle.bal_plan.proofs.Caps.{within_is}
 use Rattle.bal_entries.specs.Listed.{SlotChanges, sum, read_slot}
 use Rattle.bal_entries.specs.Filling.{Filled, fill}
@@ -30,7 +31,6 @@ use Rattle.bal_accounts.specs.declared.LentAccount.{LentAccount}
 use Rattle.bal_accounts.specs.declared.Walk.{Walk}
 use Rattle.bal_accounts.specs.Accounts.{AccountChanges, group_accounts, admitted_writes, admitted_reads, filtered_entries, read_account}
 use Rattle.bal_accounts.specs.Walking.{start, WalkFits, AccountsSeeded}
-use Rattle.final_writes.specs.declared.FinalWritesReply.TheVariants.{Refused, Seeded}
 use Rattle.final_writes.specs.FinalWrites.{LentLists, accounts_of, seed_from_accounts, counts_differ, outputs_too_short, final_writes_refusal, FinalWrites, refuse, seeded, conclude, final_writes}
 use Rattle.final_writes.specs.Lent.{lent_lists, joined, beginning_with, lent_final_writes, Answers}
 use Rattle.final_writes.specs.Counts.{counts_of}
@@ -48,19 +48,19 @@ take_min {A} l k =
 -- An output that was filled under a cap -----------------------------------------------------------------
 
 -- What a walk filled: so many were found, those within the cap are at the beginning, and so many they are.
-pub record FilledUnder {A : Type 0} (g : A → List ℕ) (c : Cap) (xs : List A) (n : ℕ) (out out' : List ℕ) : Type 0 where
+pub record FilledUnder {A : Type 0} (g : A → List ℕ) (c : Option ℕ) (xs : List A) (n : ℕ) (out out' : List ℕ) : Type 0 where
   pub found_is : n ≡ length xs
-  pub out_is : out' ≡ beginning_with (map g (take (within_cap (cap_of c) (length xs)) xs)) out
-  pub within : within_cap (cap_of c) (length xs) ≡ min n (limit_of c)
-  pub count_is : min n (limit_of c) ≡ length (take (within_cap (cap_of c) (length xs)) xs)
+  pub out_is : out' ≡ beginning_with (map g (take (within_cap c (length xs)) xs)) out
+  pub within : within_cap c (length xs) ≡ min n (limit_of c)
+  pub count_is : min n (limit_of c) ≡ length (take (within_cap c (length xs)) xs)
 
-pub filled_under : {A : Type 0} (g : A → List ℕ) (w : ℕ) (wide : (x : A) → length (g x) ≡ w) (c : Cap) (xs : List A) (n : ℕ) (out out' : List ℕ) → n * w ≤ length out → n ≤ 18446744073709551615
+pub filled_under : {A : Type 0} (g : A → List ℕ) (w : ℕ) (wide : (x : A) → length (g x) ≡ w) (c : Option ℕ) (xs : List A) (n : ℕ) (out out' : List ℕ) → n * w ≤ length out → n ≤ 18446744073709551615
     → record { found = n; out = out' } ≡ fill w (limit_of c) (map g xs) (record { found = 0; out = out }) → FilledUnder g c xs n out out'
 filled_under {A} g w wide c xs n out out' h small e =
     let found : n ≡ length xs = ap (λ (f : Filled). f.found) e ∙ fill_found w (limit_of c) (map g xs) (record { found = 0; out = out }) ∙ zero-add (length (map g xs)) ∙ length-map xs g in
     let zero_found : 0 + length xs ≡ n = zero-add (length xs) ∙ sym found in
     let fits : (0 + length xs) * w ≤ length out = subst (λ (k : ℕ). k * w ≤ length out) (sym zero_found) h in
-    let k : ℕ = within_cap (cap_of c) (length xs) in
+    let k : ℕ = within_cap c (length xs) in
     let m : k ≡ min (length xs) (limit_of c) = within_is c (length xs) (omega arith) in
     let t : take (limit_of c - 0) xs ≡ take k xs = ap (λ (i : ℕ). take i xs) (sub-zero (limit_of c)) ∙ take_min xs (limit_of c) ∙ ap (λ (i : ℕ). take i xs) (sym m) in
     record {
@@ -79,7 +79,7 @@ unfolding group_accounts
 length_group [] ss rs = refl
 length_group (a ∷ l) ss rs = ap suc (length_group l (drop a.slots ss) (drop a.reads rs))
 
-module _ (accounts slots changes reads plan wo ro : List ℕ) (max_writes max_reads : Cap) where
+module _ (accounts slots changes reads plan wo ro : List ℕ) (max_writes max_reads : Option ℕ) where
   abbrev the_plan : BalPlan
   the_plan = plan_of plan max_writes max_reads
 
@@ -107,29 +107,26 @@ module _ (accounts slots changes reads plan wo ro : List ℕ) (max_writes max_re
 
   -- The outcome by the two tests.
   decided : (s t : Bool) → counts_differ lists ≡ s → too_short ≡ t
-      → called ≡ conclude (cond s (some 10) (cond t (some 9) none)) (seed_from_accounts the_plan (accounts_of lists))
+      → called ≡ conclude (cond s (Some 10) (cond t (Some 9) None)) (seed_from_accounts the_plan (accounts_of lists))
   unfolding lent_final_writes final_writes final_writes_refusal first_that_holds
   decided s t e f =
-      ap₂ (λ (x y : Bool). conclude (cond x (some 10) (cond y (some 9) none)) (seed_from_accounts the_plan (accounts_of lists))) e f
+      ap₂ (λ (x y : Bool). conclude (cond x (Some 10) (cond y (Some 9) None)) (seed_from_accounts the_plan (accounts_of lists))) e f
 
   short_is : too_short ≡ (ltb (length wo / 84) (length slots / 40) || ltb (length ro / 52) (length reads / 32))
   unfolding outputs_too_short
   short_is =
       ap₂ (λ (x y : ℕ). ltb (length wo / 84) x || ltb (length ro / 52) y) (length_entries read_slot 40 (length slots / 40) slots) (length_entries (u256_at 0) 32 (length reads / 32) reads)
 
-  refused : (n : ℕ) (s t : Bool) → cond s (some 10) (cond t (some 9) none) ≡ some n → counts_differ lists ≡ s → too_short ≡ t → Answers (Refused n) wo ro called wo ro
-  refused n s t k e f =
-      let o : called ≡ refuse n = decided s t e f ∙ ap (λ (x : Option ℕ). conclude x (seed_from_accounts the_plan (accounts_of lists))) k in
-      subst (λ (x : FinalWrites). Answers (Refused n) wo ro x wo ro) (sym o) (record { answer_is = refl; writes_are = refl; reads_are = refl })
+  refused : (r : Refusal) (s t : Bool) → cond s (Some 10) (cond t (Some 9) None) ≡ Some (refusal_number r) → counts_differ lists ≡ s → too_short ≡ t → Answers (Err r) wo ro called wo ro
+  refused r s t k e f =
+      let o : called ≡ refuse (refusal_number r) = decided s t e f ∙ ap (λ (x : Option ℕ). conclude x (seed_from_accounts the_plan (accounts_of lists))) k in
+      subst (λ (x : FinalWrites). Answers (Err r) wo ro x wo ro) (sym o) (record { answer_is = refl; writes_are = refl; reads_are = refl })
 
-  pub refused_10 : counts_differ lists ≡ true → Answers (Refused 10) wo ro called wo ro
-  refused_10 e = refused 10 true (too_short) refl e refl
+  pub counts_refused : counts_differ lists ≡ true → Answers (Err CountsDiffer) wo ro called wo ro
+  counts_refused e = refused CountsDiffer true too_short refl e refl
 
-  pub refused_9_writes : counts_differ lists ≡ false → length wo / 84 < length slots / 40 → Answers (Refused 9) wo ro called wo ro
-  refused_9_writes e h = refused 9 false true refl e (short_is ∙ ap (λ (x : Bool). x || ltb (length ro / 52) (length reads / 32)) (lt-ltb (length wo / 84) (length slots / 40) h))
-
-  pub refused_9_reads : counts_differ lists ≡ false → length slots / 40 ≤ length wo / 84 → length ro / 52 < length reads / 32 → Answers (Refused 9) wo ro called wo ro
-  refused_9_reads e g h = refused 9 false true refl e (short_is ∙ ap₂ (λ (x y : Bool). x || y) (le-ltb (length wo / 84) (length slots / 40) g) (lt-ltb (length ro / 52) (length reads / 32) h))
+  pub outputs_refused : counts_differ lists ≡ false → (ltb (length wo / 84) (length slots / 40) || ltb (length ro / 52) (length reads / 32)) ≡ true → Answers (Err LentTooShort) wo ro called wo ro
+  outputs_refused e h = refused LentTooShort false true refl e (short_is ∙ h)
 
   module _ (w : Walk) (wo' ro' : List ℕ) (alike : counts_differ lists ≡ false) (g : length slots / 40 ≤ length wo / 84) (h : length reads / 32 ≤ length ro / 52)
       (fa : Bytes accounts) (fs : Bytes slots) (fc : Bytes changes) (fr : Bytes reads) (slots_small : length slots < 18446744073709551616) (reads_small : length reads < 18446744073709551616)
@@ -159,12 +156,12 @@ module _ (accounts slots changes reads plan wo ro : List ℕ) (max_writes max_re
     filtered : w.filtered ≡ filtered_entries the_plan all
     filtered = s.filtered_is ∙ zero-add _ ∙ ap (filtered_entries the_plan) whole
 
-    pub accepted : Answers (Seeded (counts_of w (limit_of max_writes) (limit_of max_reads))) wo' ro' called wo ro
+    pub accepted : Answers (Ok (counts_of w (limit_of max_writes) (limit_of max_reads))) wo' ro' called wo ro
     unfolding seed_from_accounts
     accepted =
         let o : called ≡ seeded (seed_from_accounts the_plan all) = decided false false alike (short_is ∙ ap₂ (λ (x y : Bool). x || y) (le-ltb (length wo / 84) (length slots / 40) g) (le-ltb (length ro / 52) (length reads / 32) h)) in
-        let kw : ℕ = within_cap (cap_of max_writes) (length (admitted_writes the_plan all)) in
-        let kr : ℕ = within_cap (cap_of max_reads) (length (admitted_reads the_plan all)) in
+        let kw : ℕ = within_cap max_writes (length (admitted_writes the_plan all)) in
+        let kr : ℕ = within_cap max_reads (length (admitted_reads the_plan all)) in
         let capped : w.writes - min w.writes (limit_of max_writes) + (w.reads - min w.reads (limit_of max_reads)) ≡ (length (admitted_writes the_plan all) - kw) + (length (admitted_reads the_plan all) - kr) =
         omega (arith, writes.found_is, writes.within, reads_filled.found_is, reads_filled.within) in
         let ws : map write_of (chunks 84 (min w.writes (limit_of max_writes)) wo') ≡ take kw (admitted_writes the_plan all) =
@@ -172,5 +169,5 @@ module _ (accounts slots changes reads plan wo ro : List ℕ) (max_writes max_re
         ∙ writes_back wo (each_take kw (admitted_writes_fit the_plan accounts slots changes reads fa fs fc fr)) in
         let rs : first_slots (min w.reads (limit_of max_reads)) ro' ≡ take kr (admitted_reads the_plan all) =
         ap₂ first_slots reads_filled.count_is reads_filled.out_is ∙ reads_back ro (each_take kr (admitted_reads_fit the_plan accounts slots changes reads fa fs fc fr)) in
-        subst (λ (x : FinalWrites). Answers (Seeded (counts_of w (limit_of max_writes) (limit_of max_reads))) wo' ro' x wo ro) (sym o)
+        subst (λ (x : FinalWrites). Answers (Ok (counts_of w (limit_of max_writes) (limit_of max_reads))) wo' ro' x wo ro) (sym o)
         (record { answer_is = λ i. seeded (record { writes = ws i; reads = rs i; filtered = filtered i; capped = capped i }); writes_are = writes.out_is; reads_are = reads_filled.out_is })

@@ -1,6 +1,5 @@
 -- Final writes (`seed_from_accounts` with `BalPlan`), over lists that are lent flat.
-use Rattle.std.specs.Prelude.{ℕ, ◌+◌, ◌-◌, Bool, not, ◌||◌, List, [], ◌∷◌, map, eqb, ltb, length, take}
-use Rattle.std.proofs.Math.Option.{Option, some, none}
+use Rattle.std.specs.Prelude.{ℕ, ◌+◌, ◌-◌, Bool, not, ◌||◌, List, [], ◌∷◌, map, eqb, ltb, length, take, None, Option, Some}
 use Rattle.model.specs.declared.storage_memo.U256.{U256}
 use Rattle.model.specs.declared.delta_snapshot.Slot.{Slot}
 use Rattle.model.specs.Advance.{Write}
@@ -60,8 +59,8 @@ pub data FinalWrites : Type 0 where
   seeded : BalSeed → FinalWrites
 
 abbrev pub conclude : Option ℕ → BalSeed → FinalWrites
-conclude none s = seeded s
-conclude (some n) s = refuse n
+conclude None s = seeded s
+conclude (Some n) s = refuse n
 
 unfoldable pub final_writes : BalPlan → LentLists → ℕ → ℕ → FinalWrites
 final_writes p l write_entries read_entries = conclude (final_writes_refusal l write_entries read_entries) (seed_from_accounts p (accounts_of l))

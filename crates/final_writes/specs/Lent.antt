@@ -1,5 +1,8 @@
 -- Final writes on lent bytes: the lists that the bytes give, and what is answered and put into the outputs.
-use Rattle.std.specs.Prelude.{◌≡◌, List, [], ◌∷◌, ◌++◌, map, ℕ, ◌/◌, length}
+use Rattle.std.specs.Prelude.{◌≡◌, List, [], ◌∷◌, ◌++◌, map, ℕ, ◌/◌, length, Ok, Err}
+use Rattle.std.specs.declared.result.Result.{Result}
+use Rattle.model.specs.declared.refusal.Refusal.{Refusal}
+use Rattle.model.specs.Refusals.{refusal_number}
 use Rattle.model.specs.Entries.{write_of, chunks, slot_bytes, first_slots}
 use Rattle.words.specs.Parts.{placed}
 use Rattle.entries.specs.Bytes.{write_bytes}
@@ -7,8 +10,7 @@ use Rattle.final_change.specs.Changes.{changes_in}
 use Rattle.bal_plan.specs.Plan.{BalPlan}
 use Rattle.bal_entries.specs.Listed.{slots_in, reads_in}
 use Rattle.bal_accounts.specs.Accounts.{accounts_in}
-use Rattle.final_writes.specs.declared.FinalWritesReply.{FinalWritesReply}
-use Rattle.final_writes.specs.declared.FinalWritesReply.TheVariants.{Refused, Seeded}
+use Rattle.final_writes.specs.declared.SeedCounts.{SeedCounts}
 use Rattle.final_writes.specs.FinalWrites.{LentLists, FinalWrites, refuse, seeded, final_writes}
 
 -- The lists that the lent bytes give: accounts of 36 bytes, slots of 40, changes of 40, reads of 32.
@@ -25,11 +27,15 @@ joined (b ∷ bs) = b ++ joined bs
 abbrev pub beginning_with : List (List ℕ) → List ℕ → List ℕ
 beginning_with bs out = placed 0 (joined bs) out
 
+-- The reply of final writes.
+abbrev pub FinalWritesReply : Type 0
+FinalWritesReply = Result SeedCounts Refusal
+
 -- What a reply means, with the two outputs after the call: the seed's writes and reads are the outputs' first entries, as many as the reply counts.
 -- A refusal is its number and nothing else: it carries no count, document 01's "all counts 0".
 abbrev pub final_writes_reply : FinalWritesReply → List ℕ → List ℕ → FinalWrites
-final_writes_reply (Refused n) wo ro = refuse n
-final_writes_reply (Seeded c) wo ro =
+final_writes_reply (Err e) wo ro = refuse (refusal_number e)
+final_writes_reply (Ok c) wo ro =
     seeded (record { writes = map write_of (chunks 84 c.writes wo); reads = first_slots c.reads ro; filtered = c.filtered; capped = c.capped })
 
 -- The outputs after a call: a refused call keeps every byte, an accepted one those past its last entry.

@@ -1,8 +1,8 @@
 -- A walk over an index that gives a record at the end of a slot's group gives the fold's layer.
+use Rattle.std.specs.Prelude.{None, Option, Some}
 use mathlib.Core.Path.{◌≡◌, refl, sym, ap, ap₂, subst, ◌∙◌}
 use mathlib.Core.Bool.{true, false, cond, true≢false}
 use mathlib.Core.List.{List, [], ◌∷◌, ◌++◌, map}
-use mathlib.Core.Option.{Option, some, none}
 use Prim.Native.Nat.{ℕ, suc, ◌+◌, ◌*◌, ◌≤◌, ◌<◌}
 use native.Mathlib.Omega.{arith}
 use native.Mathlib.Numerals.{add-one}
@@ -87,19 +87,19 @@ all_both g (add p a) (add q b) = add (g _ p q) (all_both g a b)
 
 slot_front : (R : Retention) (now : ℕ) (s : Slot) (f : Option LastUse) (h : Option Value) (l : Layer) → rising_from s l ≡ true → compact_slot R now s f h [] ++ l ≡ compact_slot R now s f h l
 unfolding insert
-slot_front R now s none h l e = refl
-slot_front R now s (some u) none l e = refl
-slot_front R now s (some u) (some v) l e = split (serves R u now) (λ y. rw (y, insert_front s (valued u v) l e)) (λ y. rw y)
+slot_front R now s None h l e = refl
+slot_front R now s (Some u) None l e = refl
+slot_front R now s (Some u) (Some v) l e = split (serves R u now) (λ y. rw (y, insert_front s (valued u v) l e)) (λ y. rw y)
 
 slot_twice : (R : Retention) (now : ℕ) (s : Slot) (f : Option LastUse) (h : Option Value) (l : Layer) → compact_slot R now s f h (compact_slot R now s f h l) ≡ compact_slot R now s f h l
-slot_twice R now s none h l = refl
-slot_twice R now s (some u) none l = refl
-slot_twice R now s (some u) (some v) l = split (serves R u now) (λ y. rw (y, insert_twice s (valued u v) l)) (λ y. rw y)
+slot_twice R now s None h l = refl
+slot_twice R now s (Some u) None l = refl
+slot_twice R now s (Some u) (Some v) l = split (serves R u now) (λ y. rw (y, insert_twice s (valued u v) l)) (λ y. rw y)
 
 slot_from : (R : Retention) (now : ℕ) (a s : Slot) (f : Option LastUse) (h : Option Value) (l : Layer) → slot_ltb a s ≡ true → rising_from a l ≡ true → rising_from a (compact_slot R now s f h l) ≡ true
-slot_from R now a s none h l g e = e
-slot_from R now a s (some u) none l g e = e
-slot_from R now a s (some u) (some v) l g e = split (serves R u now) (λ y. rw y (insert_from a s (valued u v) l g e)) (λ y. rw y e)
+slot_from R now a s None h l g e = e
+slot_from R now a s (Some u) None l g e = e
+slot_from R now a s (Some u) (Some v) l g e = split (serves R u now) (λ y. rw y (insert_from a s (valued u v) l g e)) (λ y. rw y e)
 
 -- The walk's records -----------------------------------------------------------------------------------------------------
 

@@ -1,7 +1,7 @@
 -- What the fold writes reads back: its layer's words are below 2^64. It has no more records than there were.
+use Rattle.std.specs.Prelude.{None, Option, Some}
 use mathlib.Core.Path.{◌≡◌, refl, ap}
 use mathlib.Core.List.{List, [], ◌∷◌, ◌++◌}
-use mathlib.Core.Option.{Option, some, none}
 use Prim.Native.Nat.{ℕ, suc, ◌*◌, ◌^◌, ◌≤◌, ◌<◌, max}
 use native.Mathlib.Omega.{arith}
 use lib.ListN.{length}
@@ -34,12 +34,12 @@ data RecordsFit : Layer → Type 0 where
   and_record : {r : Record} {l : Layer} → Fit (record_words r) → RecordsFit l → RecordsFit (r ∷ l)
 
 data UseFits : Option LastUse → Type 0 where
-  no_use : UseFits none
-  with_use : {u : LastUse} → u < 2 ^ 64 → UseFits (some u)
+  no_use : UseFits None
+  with_use : {u : LastUse} → u < 2 ^ 64 → UseFits (Some u)
 
 data ValueFits : Option Value → Type 0 where
-  no_value : ValueFits none
-  with_value : {v : Value} → Fit (u256_words v) → ValueFits (some v)
+  no_value : ValueFits None
+  with_value : {v : Value} → Fit (u256_words v) → ValueFits (Some v)
 
 each_fits : (l : Layer) → Fit (all_record_words l) → RecordsFit l
 unfolding all_record_words
@@ -56,17 +56,17 @@ unfolding group
 group_fits s [] f = no_records
 group_fits s (r ∷ l) (and_record p f) = split (slot_eqb r.slot s) (λ e. rw e (and_record p (group_fits s l f))) (λ e. rw e (group_fits s l f))
 
-use_more : (c : Content) {o : Option LastUse} → Fit (content_words c) → UseFits o → UseFits (max_option o (last_use_of (some c)))
+use_more : (c : Content) {o : Option LastUse} → Fit (content_words c) → UseFits o → UseFits (max_option o (last_use_of (Some c)))
 use_more c f no_use = with_use (use_fits c f)
 use_more c f (with_use {u = w} k) = with_use {u = max w (use_of c)} (omega (arith, use_fits c f))
 
-value_more : (c : Content) {o : Option Value} → Fit (content_words c) → ValueFits o → ValueFits (or_else o (value_of (some c)))
+value_more : (c : Content) {o : Option Value} → Fit (content_words c) → ValueFits o → ValueFits (or_else o (value_of (Some c)))
 value_more c f (with_value k) = with_value k
 value_more c f no_value = go (own_value c) refl
   where
     go : (o : Option Value) → own_value c ≡ o → ValueFits o
-    go none q = no_value
-    go (some v) q = with_value (own_value_fits c v q f)
+    go None q = no_value
+    go (Some v) q = with_value (own_value_fits c v q f)
 
 freshest_fits : {g : Layer} → RecordsFit g → UseFits (freshest g)
 unfolding freshest
@@ -113,9 +113,9 @@ insert_short s c (r ∷ l) =
     (λ e. rw e (split (slot_ltb s r.slot) (λ f. rw f (omega arith)) (λ f. rw f (let h : length (insert s c l) ≤ suc (length l) = insert_short s c l in omega arith))))
 
 slot_short : (R : Retention) (now : ℕ) (s : Slot) (f : Option LastUse) (h : Option Value) (l : Layer) → length (compact_slot R now s f h l) ≤ suc (length l)
-slot_short R now s none h l = omega arith
-slot_short R now s (some u) none l = omega arith
-slot_short R now s (some u) (some v) l = split (serves R u now) (λ e. rw e (insert_short s (valued u v) l)) (λ e. rw e (omega arith))
+slot_short R now s None h l = omega arith
+slot_short R now s (Some u) None l = omega arith
+slot_short R now s (Some u) (Some v) l = split (serves R u now) (λ e. rw e (insert_short s (valued u v) l)) (λ e. rw e (omega arith))
 
 slots_short : (R : Retention) (now : ℕ) (rs : Layer) (ss : List Slot) → length (folded_slots R now rs ss) ≤ length ss
 unfolding folded_slots

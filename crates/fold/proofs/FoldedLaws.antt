@@ -1,8 +1,8 @@
 -- The fold over records: it rises, and what a search finds in it. So it does not hang on the order of the slots, and for layers it is the model's.
+use Rattle.std.specs.Prelude.{None, Option, Some}
 use mathlib.Core.Path.{◌≡◌, refl, sym, ap, ◌∙◌}
 use mathlib.Core.Bool.{Bool, true, false, cond}
 use mathlib.Core.List.{List, [], ◌∷◌}
-use mathlib.Core.Option.{Option, some, none}
 use Prim.Native.Nat.{ℕ}
 use lib.ListN.{length}
 use Rattle.model.specs.declared.delta_snapshot.Slot.{Slot}
@@ -27,25 +27,25 @@ use Rattle.fold.proofs.RisingLaws.{rising_same}
 -- One slot's part ------------------------------------------------------------------------------------------------------
 
 rising_slot : (R : Retention) (now : ℕ) (s : Slot) (f : Option LastUse) (h : Option Value) (l : Layer) → rising l ≡ true → rising (compact_slot R now s f h l) ≡ true
-rising_slot R now s none h l e = e
-rising_slot R now s (some u) none l e = e
-rising_slot R now s (some u) (some v) l e = split (serves R u now) (λ y. rw y (rising_insert s (valued u v) l e)) (λ y. rw y e)
+rising_slot R now s None h l e = e
+rising_slot R now s (Some u) None l e = e
+rising_slot R now s (Some u) (Some v) l e = split (serves R u now) (λ y. rw y (rising_insert s (valued u v) l e)) (λ y. rw y e)
 
 -- What a search finds of the slot itself, where the layer has of it that or nothing; and of another.
-find_same : (R : Retention) (now : ℕ) (s : Slot) (f : Option LastUse) (h : Option Value) (l : Layer) (b : Bool) → slot_eqb s s ≡ true → find s l ≡ cond b (compacted_content R now f h) none → find s (compact_slot R now s f h l) ≡ compacted_content R now f h
-find_same R now s none h l true y e = e
-find_same R now s none h l false y e = e
-find_same R now s (some u) none l true y e = e
-find_same R now s (some u) none l false y e = e
-find_same R now s (some u) (some v) l b y e =
+find_same : (R : Retention) (now : ℕ) (s : Slot) (f : Option LastUse) (h : Option Value) (l : Layer) (b : Bool) → slot_eqb s s ≡ true → find s l ≡ cond b (compacted_content R now f h) None → find s (compact_slot R now s f h l) ≡ compacted_content R now f h
+find_same R now s None h l true y e = e
+find_same R now s None h l false y e = e
+find_same R now s (Some u) None l true y e = e
+find_same R now s (Some u) None l false y e = e
+find_same R now s (Some u) (Some v) l b y e =
     split (serves R u now)
     (λ d. rw d (find_insert s s (valued u v) l ∙ rw y))
     (λ d. rw d (e ∙ split b (λ z. rw (z, d)) (λ z. rw z)))
 
 find_other : (R : Retention) (now : ℕ) (t s : Slot) (f : Option LastUse) (h : Option Value) (l : Layer) → slot_eqb t s ≡ false → find s (compact_slot R now t f h l) ≡ find s l
-find_other R now t s none h l e = refl
-find_other R now t s (some u) none l e = refl
-find_other R now t s (some u) (some v) l e = split (serves R u now) (λ d. rw d (find_insert t s (valued u v) l ∙ rw e)) (λ d. rw d)
+find_other R now t s None h l e = refl
+find_other R now t s (Some u) None l e = refl
+find_other R now t s (Some u) (Some v) l e = split (serves R u now) (λ d. rw d (find_insert t s (valued u v) l ∙ rw e)) (λ d. rw d)
 
 -- All slots ------------------------------------------------------------------------------------------------------------
 
@@ -55,7 +55,7 @@ module _ (R : Retention) (now : ℕ) (rs : Layer) where
   rising_folded [] = refl
   rising_folded (s ∷ ss) = rising_slot R now s (freshest (group s rs)) (newest_value (group s rs)) (folded_slots R now rs ss) (rising_folded ss)
 
-  find_folded : (s : Slot) (ss : List Slot) → find s (folded_slots R now rs ss) ≡ cond (mem s ss) (compacted_content R now (freshest (group s rs)) (newest_value (group s rs))) none
+  find_folded : (s : Slot) (ss : List Slot) → find s (folded_slots R now rs ss) ≡ cond (mem s ss) (compacted_content R now (freshest (group s rs)) (newest_value (group s rs))) None
   unfolding folded_slots mem find
   find_folded s [] = refl
   find_folded s (t ∷ ss) =
@@ -68,7 +68,7 @@ module _ (R : Retention) (now : ℕ) (rs : Layer) where
   pub folded_same : (xs ys : List Slot) → ((s : Slot) → mem s xs ≡ mem s ys) → folded_slots R now rs xs ≡ folded_slots R now rs ys
   folded_same xs ys h =
       rising_same (folded_slots R now rs xs) (folded_slots R now rs ys) (rising_folded xs) (rising_folded ys)
-      (λ s. find_folded s xs ∙ ap (λ (b : Bool). cond b (compacted_content R now (freshest (group s rs)) (newest_value (group s rs))) none) (h s) ∙ sym (find_folded s ys))
+      (λ s. find_folded s xs ∙ ap (λ (b : Bool). cond b (compacted_content R now (freshest (group s rs)) (newest_value (group s rs))) None) (h s) ∙ sym (find_folded s ys))
 
 -- For layers -----------------------------------------------------------------------------------------------------------
 

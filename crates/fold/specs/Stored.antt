@@ -1,6 +1,5 @@
 -- Records written one after the other.
-use Rattle.std.specs.Prelude.{ℕ, ◌+◌, ◌*◌, ◌≡◌, Bool, cond, List, [], ◌∷◌, ◌++◌, length, take, drop}
-use Rattle.std.proofs.Math.Option.{some}
+use Rattle.std.specs.Prelude.{ℕ, ◌+◌, ◌*◌, ◌≡◌, Bool, cond, List, [], ◌∷◌, ◌++◌, length, take, drop, Some}
 use Rattle.layout.specs.Layout.{record_size}
 use Rattle.model.specs.Slots.{LastUse}
 use Rattle.model.specs.Contents.{touch}
@@ -9,7 +8,7 @@ use Rattle.image.specs.Image.{bytes_of, all_record_words}
 
 -- A record with another last use; its value stays.
 abbrev pub renewed : LastUse → Record → Record
-renewed u r = record { slot = r.slot; content = touch u (some r.content) }
+renewed u r = record { slot = r.slot; content = touch u (Some r.content) }
 
 -- What is left of a slot: its newest record with a value, with the given use, or nothing.
 abbrev pub kept : Bool → LastUse → Record → Layer

@@ -1,17 +1,19 @@
 // The fold of a base's layers into one, by one walk over the index of its records.
 #![tactic(auto)]
 
-ghost use Rattle.std.specs.Prelude.{◌≡◌, cond, ◌+◌, ◌*◌, ◌≤◌, ◌<◌, length, get_or};
+ghost use Rattle.std.specs.Prelude.{◌≡◌, ◌+◌, ◌*◌, ◌≤◌, ◌<◌, length, get_or};
 ghost use Rattle.layout.specs.Layout.{record_size};
 ghost use Rattle.words.specs.Parts.{placed};
 ghost use Rattle.image.specs.Image.{bytes_of, record_words, read_record};
 ghost use Rattle.image.specs.Area.{records_of, with_records};
-ghost use Rattle.order.specs.Index.{numbers, no_record, Ordered, up_from};
+ghost use Rattle.order.specs.Index.{Ordered, up_from};
+ghost use Rattle.order.specs.Lent.{all_of, record_of, slots_of};
 ghost use Rattle.records.specs.Records.{words_at};
 ghost use Rattle.fold.specs.Fold.{folded, dropped_in};
 ghost use Rattle.fold.specs.Stored.{renewed, kept, Stored};
 
 use model::delta_snapshot::Retention;
+use order::Records;
 
 // How many slots a fold left and how many it dropped.
 #[derive(Clone, Copy)]
@@ -33,60 +35,41 @@ fn write_record(s: &[u8], i: usize, used: u64, out: &mut [u8], c: usize)
 }
 
 // What is left of a slot, whose newest record with a value is record i, written as record c of the output: where the next goes.
-fn settle(s: &[u8], n: usize, i: usize, keep: bool, used: u64, out: &mut [u8], c: usize) -> usize
-    requires { (n * record_size ≤ length s.now) × (i < n) × ((c + 1) * record_size ≤ length out.old) }
-    ensures { Stored c result (kept keep used (get_or (records_of n s.now) i no_record)) out.old out.new }
+fn settle(records: Records, i: usize, keep: bool, used: u64, out: &mut [u8], c: usize) -> usize
+    requires { (i < records.count) × ((c + 1) * record_size ≤ length out.old) }
+    ensures { Stored c result (kept keep used (record_of records.entry i)) out.old out.new }
 {
     if keep {
-        write_record(s, i, used, out, c);
-        return c + 1;
+        write_record(records.bytes, i, used, out, c);
+        c + 1
+    } else {
+        c
     }
-    c
-}
-
-// The first of two where a flag is set, else the second.
-fn choose(b: bool, x: usize, y: usize) -> usize
-    ensures { result ≡ cond b x y }
-{
-    if b {
-        return x;
-    }
-    y
 }
 
 // The fold, by the index of the records.
-fn walk(
-    s: &[u8],
-    n: usize,
-    retention: Retention,
-    number: u64,
-    ix: &[usize],
-    out: &mut [u8],
-) -> Folded
-    requires { (n * record_size ≤ length s.now) × (length ix.now * record_size ≤ length out.old) × Ordered (numbers n s.now) (up_from 0 n) ix.now }
-    ensures { (out.new ≡ with_records (folded retention number (records_of n s.now)) out.old) × (result.left ≡ length (folded retention number (records_of n s.now))) × (result.dropped ≡ dropped_in retention number (records_of n s.now)) }
+fn walk(records: Records, retention: Retention, number: u64, ix: &[usize], out: &mut [u8]) -> Folded
+    requires { (length ix.now * record_size ≤ length out.old) × Ordered (slots_of records) (up_from 0 records.count) ix.now }
+    ensures { (out.new ≡ with_records (folded retention number (all_of records.entry)) out.old) × (result.left ≡ length (folded retention number (all_of records.entry))) × (result.dropped ≡ dropped_in retention number (all_of records.entry)) }
 {
     let least = rules::oldest(retention, number);
     let mut left = 0;
     let mut dropped = 0;
     let mut any = false;
-    let mut low = 0;
+    let mut low: u64 = 0;
     let mut at = 0;
-    let mut j = 0;
-    while j < ix.len() {
-        let i = ix[j];
-        let has = order::valued(s, n, i);
-        any = order::either(any, has);
-        low = order::larger(low, order::last_use(s, n, i));
-        at = choose(has, i, at);
-        if order::ends(s, n, ix, j) {
-            left = settle(s, n, at, counts::served(least, any, low), low, out, left);
-            dropped += order::bit(low < least);
+    for (j, &i) in ix.iter().enumerate() {
+        let has = records.valued(i);
+        any |= has;
+        low = low.max(records.last_use(i));
+        at = if has { i } else { at };
+        if records.ends(ix, j) {
+            left = settle(records, at, counts::served(least, any, low), low, out, left);
+            dropped += usize::from(low < least);
             any = false;
             low = 0;
             at = 0;
         }
-        j += 1;
     }
     Folded { left, dropped }
 }
@@ -98,6 +81,7 @@ pub fn compact(s: &[u8], n: usize, retention: Retention, number: u64, out: &mut 
 {
     let mut a = [0usize; 4096];
     let mut b = [0usize; 4096];
-    order::order(s, n, &mut a[0..n], &mut b[0..n]);
-    walk(s, n, retention, number, &b[0..n], out)
+    let records = Records { bytes: s, count: n };
+    records.order(&mut a[0..n], &mut b[0..n]);
+    walk(records, retention, number, &b[0..n], out)
 }

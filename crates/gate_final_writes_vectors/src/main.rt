@@ -3,7 +3,6 @@
 
 ghost use Rattle.std.specs.Prelude.{◌+◌, ◌*◌, ◌≤◌, length, IfOk};
 
-use bal_plan::Cap;
 use final_writes::FinalWritesReply;
 use std::io::Read;
 use std::{fs, io};
@@ -11,13 +10,8 @@ use std::{fs, io};
 // What an output holds before a call.
 const BEFORE: u8 = 0xa5;
 
-// What came of the next vector of the file.
-#[derive(Clone, Copy)]
-enum Run {
-    End,
-    Same,
-    Differs,
-}
+// So many vectors of the file are run at most.
+const MOST: u64 = 100000;
 
 // Number k of a vector's head.
 fn number(head: &[u8], k: usize) -> u64
@@ -35,13 +29,13 @@ fn extent(head: &[u8], k: usize) -> usize
     if n <= 8192 { n as usize } else { 0 }
 }
 
-fn cap(head: &[u8], k: usize) -> Cap
+fn cap(head: &[u8], k: usize) -> Option<u64>
     requires { 8 * k + 16 ≤ length head.now }
 {
     if number(head, k) == 0 {
-        Cap::Unlimited
+        None
     } else {
-        Cap::AtMost(number(head, k + 1))
+        Some(number(head, k + 1))
     }
 }
 
@@ -50,8 +44,8 @@ fn same_answer(answer: FinalWritesReply, head: &[u8]) -> bool
     requires { 128 ≤ length head.now }
 {
     match answer {
-        FinalWritesReply::Refused(n) => number(head, 11) == 0 && number(head, 12) == n,
-        FinalWritesReply::Seeded(s) => {
+        Err(refusal) => number(head, 11) == 0 && number(head, 12) == refusal.number(),
+        Ok(s) => {
             number(head, 11) == 1
                 && number(head, 12) == s.writes
                 && number(head, 13) == s.reads
@@ -63,21 +57,10 @@ fn same_answer(answer: FinalWritesReply, head: &[u8]) -> bool
 
 // Whether an output begins with the recorded entries, and the rest is as it was.
 fn holds(out: &[u8], entries: &[u8]) -> bool {
-    if out.len() < entries.len() {
+    let Some(rest) = out.strip_prefix(entries) else {
         return false;
-    }
-    let mut i = 0;
-    while i < out.len() {
-        let mut want = BEFORE;
-        if i < entries.len() {
-            want = entries[i];
-        }
-        if out[i] != want {
-            return false;
-        }
-        i += 1;
-    }
-    true
+    };
+    rest.iter().all(|byte| *byte == BEFORE)
 }
 
 // How many entries a vector records for an output: none where the call is refused.
@@ -202,15 +185,6 @@ fn filled(file: &mut impl Read, buf: &mut [u8], n: usize) -> io::Result<bool> {
     Ok(read_full(file, &mut buf[..n])? == n)
 }
 
-// The bytes of an output before a call.
-fn prepare(out: &mut [u8]) {
-    let mut i = 0;
-    while i < out.len() {
-        out[i] = BEFORE;
-        i += 1;
-    }
-}
-
 // The bytes that follow the head, or 0 where there is no head.
 fn body_size(head: &[u8]) -> usize {
     if head.len() < 128 {
@@ -219,30 +193,19 @@ fn body_size(head: &[u8]) -> usize {
     reads_end(head)
 }
 
-// The next vector of the file.
-fn run_next(file: &mut impl Read) -> io::Result<Run> {
+// Whether the next vector of the file gets what is recorded; none at the file's end.
+fn run_next(file: &mut impl Read) -> io::Result<Option<bool>> {
     let mut head = [0u8; 4096];
     if !filled(file, &mut head, 128)? {
-        return Ok(Run::End);
+        return Ok(None);
     }
     let mut body = [0u8; 65536];
     if !filled(file, &mut body, body_size(&head))? {
-        return Ok(Run::Differs);
+        return Ok(Some(false));
     }
-    let mut writes_out = [0u8; 65536];
-    let mut reads_out = [0u8; 65536];
-    prepare(&mut writes_out);
-    prepare(&mut reads_out);
-    if replay(&head, &body, &mut writes_out, &mut reads_out) {
-        Ok(Run::Same)
-    } else {
-        Ok(Run::Differs)
-    }
-}
-
-fn say(rt: &impl Print, n: u64, what: &[u8]) -> io::Result<()> {
-    rt.print(n)?;
-    rt.write_all(what)
+    let mut writes_out = [BEFORE; 65536];
+    let mut reads_out = [BEFORE; 65536];
+    Ok(Some(replay(&head, &body, &mut writes_out, &mut reads_out)))
 }
 
 // The vectors run, and those that differ.
@@ -252,33 +215,23 @@ struct Tally {
     different: u64,
 }
 
-fn is_end(r: Run) -> bool {
-    if let Run::End = r { true } else { false }
-}
-
-fn fault(r: Run) -> u64
-    ensures { result ≤ 1 }
-{
-    if let Run::Differs = r { 1 } else { 0 }
-}
-
 fn run_all(file: &mut impl Read) -> io::Result<Tally> {
-    let mut run: u64 = 0;
-    let mut different: u64 = 0;
-    while run < 100000 {
-        let r = run_next(file)?;
-        if is_end(r) {
+    let mut different = 0;
+    for run in 0..MOST {
+        let Some(same) = run_next(file)? else {
             return Ok(Tally { run, different });
-        }
-        different += fault(r);
-        run += 1;
+        };
+        different += u64::from(!same);
     }
-    Ok(Tally { run, different })
+    Ok(Tally {
+        run: MOST,
+        different,
+    })
 }
 
 fn main(rt: HostRuntime) -> io::Result<()> {
     let mut file = fs::open(&rt, "vectors")?;
-    let t = run_all(&mut file)?;
-    say(&rt, t.run, b" vectors\n")?;
-    say(&rt, t.different, b" differences\n")
+    let Tally { run, different } = run_all(&mut file)?;
+    println!(rt; "{run} vectors")?;
+    println!(rt; "{different} differences")
 }

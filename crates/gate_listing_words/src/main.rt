@@ -2,6 +2,10 @@
 // around it.
 #![tactic(auto)]
 
+ghost use Rattle.std.specs.Prelude.{◌≡◌, ◌≤◌, length};
+ghost use Rattle.call_answers.specs.Answers.{slots_listed};
+
+use call_answers::CallAnswer;
 use listing::AdvanceCounts;
 use model::bal_prefetch::BalSkip;
 use model::delta_snapshot::Slot;
@@ -30,70 +34,49 @@ fn compare(
     }
 }
 
+// The same of a call's answer that lists no slots.
+fn answer(rt: &impl Print, name: &[u8], a: CallAnswer, expected: &[u8]) -> io::Result<()>
+    requires { (slots_listed a ≡ 0) × (4 ≤ length expected.now) × (length expected.now ≤ 199) }
+{
+    let mut out = [46u8; 199];
+    let next = call_answers::answer_lines(&mut out, 2, a, &[]);
+    let n = expected.len();
+    compare(rt, name, &out[..n], next, expected, n - 2)
+}
+
 // Lines of words alone.
 fn words(rt: &impl Print) -> io::Result<()> {
-    let mut open = [46u8; 9];
-    let open_end = listing::open_line(&mut open, 2);
-    compare(rt, b"open", &open, open_end, b"..open\n..", 7)?;
-    let mut same = [46u8; 16];
-    let same_end = listing::anchor_same_line(&mut same, 2);
-    compare(
+    answer(rt, b"open", CallAnswer::Open, b"..open\n..")?;
+    answer(
         rt,
         b"anchor same",
-        &same,
-        same_end,
+        CallAnswer::AnchorSame,
         b"..anchor same\n..",
-        14,
     )?;
-    let mut fresh = [46u8; 17];
-    let fresh_end = listing::anchor_fresh_line(&mut fresh, 2);
-    compare(
+    answer(
         rt,
         b"anchor fresh",
-        &fresh,
-        fresh_end,
+        CallAnswer::AnchorFresh,
         b"..anchor fresh\n..",
-        15,
     )?;
-    let mut none = [46u8; 9];
-    let none_end = listing::none_line(&mut none, 2);
-    compare(rt, b"none", &none, none_end, b"..none\n..", 7)?;
-    let mut put = [46u8; 8];
-    let put_end = listing::put_line(&mut put, 2);
-    compare(rt, b"put", &put, put_end, b"..put\n..", 6)
+    answer(rt, b"none", CallAnswer::Nothing, b"..none\n..")?;
+    answer(rt, b"put", CallAnswer::Put, b"..put\n..")
 }
 
 // Lines of a word and numbers.
 fn numbers(rt: &impl Print) -> io::Result<()> {
-    let mut no = [46u8; 10];
-    let no_end = listing::refusal_line(&mut no, 2, 22);
-    compare(rt, b"no", &no, no_end, b"..no 22\n..", 8)?;
-    let mut no_digit = [46u8; 9];
-    let no_digit_end = listing::refusal_line(&mut no_digit, 2, 3);
-    compare(
-        rt,
-        b"no, one digit",
-        &no_digit,
-        no_digit_end,
-        b"..no 3\n..",
-        7,
-    )?;
-    let mut wait = [46u8; 13];
-    let wait_end = listing::wait_line(&mut wait, 2, 105);
-    compare(rt, b"wait", &wait, wait_end, b"..wait 105\n..", 11)?;
+    answer(rt, b"no", CallAnswer::Refused(22), b"..no 22\n..")?;
+    answer(rt, b"no, one digit", CallAnswer::Refused(3), b"..no 3\n..")?;
+    answer(rt, b"wait", CallAnswer::Wait(105), b"..wait 105\n..")?;
     let mut take = [46u8; 12];
-    let take_end = listing::take_line(&mut take, 2, 64);
+    let take_end = listing::word_line(&mut take, 2, b"take", &[64]);
     compare(rt, b"take", &take, take_end, b"..take 64\n..", 10)?;
-    let mut answer = [46u8; 19];
-    let answer_end = listing::answer_line(&mut answer, 2, 12, 3, 40);
-    compare(
-        rt,
-        b"answer",
-        &answer,
-        answer_end,
-        b"..answer 12 3 40\n..",
-        17,
-    )
+    let answered = CallAnswer::Answer {
+        members: 12,
+        errors: 3,
+        woken: 40,
+    };
+    answer(rt, b"answer", answered, b"..answer 12 3 40\n..")
 }
 
 // Lines of an advance.

@@ -8,7 +8,7 @@ ghost use Rattle.model.specs.Refusals.{store_size};
 use model::delta_snapshot::{Retention, Slot};
 use model::storage_memo::{Address, ReadAnchor, U256};
 use std::io;
-use store::{AnswerReply, ReadReply, TakeReply};
+use store::{AnswerReply, Answered, ReadOutcome, ReadReply, TakeReply};
 
 // The bytes of a store of four records.
 const STORE_SIZE: usize = layout::RECORDS_OFFSET + 4 * layout::RECORD_SIZE;
@@ -45,19 +45,16 @@ fn field(rt: &impl Print, word: &[u8], n: u64) -> io::Result<()> {
 // A value in hex.
 fn print_value(rt: &impl Print, v: U256) -> io::Result<()> {
     say(rt, b" value ")?;
-    let w0 = v.w0;
-    let w1 = v.w1;
-    let w2 = v.w2;
-    let w3 = v.w3;
+    let U256 { w0, w1, w2, w3 } = v;
     print!(rt; "{w0:016x}{w1:016x}{w2:016x}{w3:016x}")
 }
 
 fn print_read(rt: &impl Print, label: &[u8], r: ReadReply) -> io::Result<()> {
     say(rt, label)?;
     match r {
-        ReadReply::Refused(n) => field(rt, b"no", n)?,
-        ReadReply::Value(v) => print_value(rt, v)?,
-        ReadReply::Waiting(n) => field(rt, b"wait", n)?,
+        Err(refusal) => field(rt, b"no", refusal.number())?,
+        Ok(ReadOutcome::Value(v)) => print_value(rt, v)?,
+        Ok(ReadOutcome::Waiting(n)) => field(rt, b"wait", n)?,
     }
     say(rt, b"\n")
 }
@@ -65,8 +62,8 @@ fn print_read(rt: &impl Print, label: &[u8], r: ReadReply) -> io::Result<()> {
 fn print_take(rt: &impl Print, label: &[u8], r: TakeReply) -> io::Result<()> {
     say(rt, label)?;
     match r {
-        TakeReply::Refused(n) => field(rt, b"no", n)?,
-        TakeReply::Listed(n) => field(rt, b"take", n)?,
+        Err(refusal) => field(rt, b"no", refusal.number())?,
+        Ok(n) => field(rt, b"take", n)?,
     }
     say(rt, b"\n")
 }
@@ -74,12 +71,14 @@ fn print_take(rt: &impl Print, label: &[u8], r: TakeReply) -> io::Result<()> {
 fn print_answer(rt: &impl Print, label: &[u8], r: AnswerReply) -> io::Result<()> {
     say(rt, label)?;
     match r {
-        AnswerReply::Refused(n) => field(rt, b"no", n)?,
-        AnswerReply::Answered {
-            members,
-            errors,
-            woken,
-        } => {
+        Err(refusal) => field(rt, b"no", refusal.number())?,
+        Ok(
+            Answered {
+                members,
+                errors,
+                woken,
+            },
+        ) => {
             field(rt, b"members", members)?;
             field(rt, b"errors", errors)?;
             field(rt, b"woken", woken)?;
@@ -109,9 +108,9 @@ fn prepare() -> [u8; STORE_SIZE]
         w2: 0,
         w3: 5,
     };
-    store::open(&mut s, 4, 1, Retention::Unbounded);
-    store::install(&mut s, ReadAnchor::at(7));
-    store::put(&mut s, ReadAnchor::at(7), slot(1), value);
+    let _ = store::open(&mut s, 4, 1, Retention::Unbounded);
+    let _ = store::install(&mut s, ReadAnchor::at(7));
+    let _ = store::put(&mut s, ReadAnchor::at(7), slot(1), value);
     s
 }
 
@@ -129,7 +128,7 @@ fn read_at_limit(
 
 // Another block is installed; its reads are counted anew.
 fn at_next_block(rt: &impl Print, s: &mut [u8; STORE_SIZE]) -> io::Result<()> {
-    store::install(s, ReadAnchor::at(8));
+    let _ = store::install(s, ReadAnchor::at(8));
     print_read(
         rt,
         b"a read at another anchor:",
@@ -183,23 +182,24 @@ fn take_long(rt: &impl Print, s: &mut [u8; STORE_SIZE], anchor: ReadAnchor) -> i
 fn takes(rt: &impl Print) -> io::Result<()> {
     let anchor = ReadAnchor::at(7);
     let mut s = prepare();
-    store::read(&mut s, anchor, slot(3));
-    store::read(&mut s, anchor, slot(2));
+    let _ = store::read(&mut s, anchor, slot(3));
+    let _ = store::read(&mut s, anchor, slot(2));
     take_short(rt, b"take of 2 slots to 103 bytes:", &mut s, anchor)?;
     take_short(rt, b"take at another anchor:", &mut s, ReadAnchor::at(8))?;
     take_long(rt, &mut s, anchor)?;
     take_short(rt, b"take of none to 103 bytes:", &mut s, anchor)
 }
 
-// An answer at block 7.
+// An answer at a block.
 fn answer(
     rt: &impl Print,
     label: &[u8],
     s: &mut [u8; STORE_SIZE],
+    number: u64,
     members: &[u8],
 ) -> io::Result<()> {
     let before = *s;
-    print_answer(rt, label, store::answer(s, ReadAnchor::at(7), members))?;
+    print_answer(rt, label, store::answer(s, ReadAnchor::at(number), members))?;
     print_same(rt, b"  bytes kept:", s, &before)
 }
 
@@ -235,6 +235,7 @@ fn cut_answers(rt: &impl Print) -> io::Result<()> {
         rt,
         b"answer before the take:",
         &mut s,
+        7,
         b"aaaabbbbbbbbccccccccddddddddeeeeeeeeffffffffslot0002\x0112345678ABCDEFGH87654321HGFEDCBA",
     )?;
     take_all(rt, &mut s)?;
@@ -242,6 +243,7 @@ fn cut_answers(rt: &impl Print) -> io::Result<()> {
         rt,
         b"answer of 84 bytes:",
         &mut s,
+        7,
         b"aaaabbbbbbbbccccccccddddddddeeeeeeeeffffffffslot0002\x0112345678ABCDEFGH87654321HGFEDCB",
     )?;
     answer_failed(
@@ -254,6 +256,7 @@ fn cut_answers(rt: &impl Print) -> io::Result<()> {
         rt,
         b"answer of 85 and 84 bytes:",
         &mut s,
+        7,
         b"aaaabbbbbbbbccccccccddddddddeeeeeeeeffffffffslot0002\x0112345678ABCDEFGH87654321HGFEDCBAaaaabbbbbbbbccccccccddddddddeeeeeeeeffffffffslot0003\x0112345678ABCDEFGH87654321HGFEDCB",
     )?;
     read(rt, b"  slot 2:", &mut s, 2)?;
@@ -267,18 +270,6 @@ fn cut_answers(rt: &impl Print) -> io::Result<()> {
     read(rt, b"  slot 3:", &mut s, 3)
 }
 
-// An answer at block 8.
-fn answer_elsewhere(
-    rt: &impl Print,
-    label: &[u8],
-    s: &mut [u8; STORE_SIZE],
-    members: &[u8],
-) -> io::Result<()> {
-    let before = *s;
-    print_answer(rt, label, store::answer(s, ReadAnchor::at(8), members))?;
-    print_same(rt, b"  bytes kept:", s, &before)
-}
-
 // A member's flag byte above 1 is refused before everything else.
 fn unknown_flags(rt: &impl Print) -> io::Result<()> {
     let mut s = prepare();
@@ -288,36 +279,42 @@ fn unknown_flags(rt: &impl Print) -> io::Result<()> {
         rt,
         b"flag 2:",
         &mut s,
+        7,
         b"aaaabbbbbbbbccccccccddddddddeeeeeeeeffffffffslot0002\x0212345678ABCDEFGH87654321HGFEDCBA",
     )?;
     answer(
         rt,
         b"flag 255:",
         &mut s,
+        7,
         b"aaaabbbbbbbbccccccccddddddddeeeeeeeeffffffffslot0002\xff12345678ABCDEFGH87654321HGFEDCBA",
     )?;
     answer(
         rt,
         b"a slot twice:",
         &mut s,
+        7,
         b"aaaabbbbbbbbccccccccddddddddeeeeeeeeffffffffslot0002\x0112345678ABCDEFGH87654321HGFEDCBAaaaabbbbbbbbccccccccddddddddeeeeeeeeffffffffslot0002\x0012345678ABCDEFGH87654321HGFEDCBA",
     )?;
     answer(
         rt,
         b"a slot twice, flag 2:",
         &mut s,
+        7,
         b"aaaabbbbbbbbccccccccddddddddeeeeeeeeffffffffslot0002\x0112345678ABCDEFGH87654321HGFEDCBAaaaabbbbbbbbccccccccddddddddeeeeeeeeffffffffslot0002\x0212345678ABCDEFGH87654321HGFEDCBA",
     )?;
-    answer_elsewhere(
+    answer(
         rt,
         b"at another anchor, flag 1:",
         &mut s,
+        8,
         b"aaaabbbbbbbbccccccccddddddddeeeeeeeeffffffffslot0002\x0112345678ABCDEFGH87654321HGFEDCBA",
     )?;
-    answer_elsewhere(
+    answer(
         rt,
         b"at another anchor, flag 2:",
         &mut s,
+        8,
         b"aaaabbbbbbbbccccccccddddddddeeeeeeeeffffffffslot0002\x0212345678ABCDEFGH87654321HGFEDCBA",
     )?;
     let mut zeros = [0u8; STORE_SIZE];
@@ -325,12 +322,14 @@ fn unknown_flags(rt: &impl Print) -> io::Result<()> {
         rt,
         b"no store, flag 1:",
         &mut zeros,
+        7,
         b"aaaabbbbbbbbccccccccddddddddeeeeeeeeffffffffslot0002\x0112345678ABCDEFGH87654321HGFEDCBA",
     )?;
     answer(
         rt,
         b"no store, flag 2:",
         &mut zeros,
+        7,
         b"aaaabbbbbbbbccccccccddddddddeeeeeeeeffffffffslot0002\x0212345678ABCDEFGH87654321HGFEDCBA",
     )
 }
@@ -345,6 +344,7 @@ fn known_flags(rt: &impl Print) -> io::Result<()> {
         rt,
         b"flag 1, and 2 in no entry:",
         &mut s,
+        7,
         b"aaaabbbbbbbbccccccccddddddddeeeeeeeeffffffffslot0002\x0112345678ABCDEFGH87654321HGFEDCBAaaaabbbbbbbbccccccccddddddddeeeeeeeeffffffffslot0003\x0212345678ABCDEFGH87654321HGFEDCB",
     )?;
     read(rt, b"  slot 2:", &mut s, 2)?;
@@ -352,6 +352,7 @@ fn known_flags(rt: &impl Print) -> io::Result<()> {
         rt,
         b"flag 0:",
         &mut s,
+        7,
         b"aaaabbbbbbbbccccccccddddddddeeeeeeeeffffffffslot0003\x0012345678ABCDEFGH87654321HGFEDCBA",
     )?;
     read(rt, b"  slot 3:", &mut s, 3)

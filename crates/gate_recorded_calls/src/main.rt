@@ -4,12 +4,11 @@
 
 ghost use Rattle.std.specs.Prelude.{◌≤◌, ◌<◌, length, IfOk};
 
-use call_reader::{CallRead, ListedCall};
+use call_reader::ListedCall;
 use call_run::RunReply;
-use reader::Cursor;
+use reader::{Cursor, Fault, Reader};
 use std::io::Read;
 use std::{fs, io};
-use store::AdvanceReply;
 
 // The bytes of a store of 256 records.
 const STORE_SIZE: usize = layout::RECORDS_OFFSET + 256 * layout::RECORD_SIZE;
@@ -63,21 +62,15 @@ fn print_applied(rt: &impl Print, entries: &[u8], applied: u64) -> io::Result<()
     say(rt, b"applied")?;
     field(rt, applied)?;
     say(rt, b"\n")?;
-    let n = applied as usize;
-    let mut i: usize = 0;
-    while i < n {
+    for i in 0..applied as usize {
         print_slot(rt, entries, i)?;
-        i += 1;
     }
     Ok(())
 }
 
 // Whether lines begin with a refusal.
 fn is_refusal(lines: &[u8]) -> bool {
-    if lines.len() < 3 {
-        return false;
-    }
-    lines[0] == 110 && lines[1] == 111 && lines[2] == 32
+    lines.starts_with(b"no ")
 }
 
 // Prints lines; whether they are no refusal.
@@ -117,21 +110,6 @@ fn print_call(rt: &impl Print, call: &[u8], s: &mut [u8]) -> io::Result<bool> {
             written,
         } => print_lines(rt, &out, written),
     }
-}
-
-// Whether two stores have the same bytes.
-fn same(a: &[u8], b: &[u8]) -> bool {
-    if a.len() != b.len() {
-        return false;
-    }
-    let mut i: usize = 0;
-    while i < a.len() {
-        if a[i] != b[i] {
-            return false;
-        }
-        i += 1;
-    }
-    true
 }
 
 fn copy(to: &mut [u8], from: &[u8]) {
@@ -187,10 +165,10 @@ fn print_advance(
         &mut work,
         &mut entries,
     );
-    if !same(before, after) {
+    if &*before != after {
         say(rt, b"the bytes differ\n")?;
     }
-    let AdvanceReply::Advanced(report) = answer else {
+    let Ok(report) = answer else {
         return Ok(());
     };
     let counts = report.writes;
@@ -218,11 +196,11 @@ fn print_detail(
 }
 
 // The refusal that ends a list, and the place of the byte that it is for.
-fn print_fault(rt: &impl Print, n: u64, place: Cursor) -> io::Result<()> {
+fn print_fault(rt: &impl Print, fault: Fault) -> io::Result<()> {
     say(rt, b"no")?;
-    field(rt, n)?;
+    field(rt, u64::from(fault.kind))?;
     say(rt, b"\nat")?;
-    field(rt, place.at as u64)?;
+    field(rt, fault.place.at as u64)?;
     say(rt, b"\n")
 }
 
@@ -231,14 +209,16 @@ fn print_next(rt: &impl Print, list: &[u8], at: usize, s: &mut [u8]) -> io::Resu
     requires { at < length list.now }
     ensures { IfOk result (λ next. (at < next) × (next ≤ length list.now)) }
 {
-    match call_reader::read_call(list, Cursor { at }) {
-        CallRead::Value(call, after) => {
-            let next = after.at;
+    let mut from = Reader { list, at };
+    match call_reader::read_call(&mut from) {
+        Ok(call) => {
+            let next = from.at;
             print_detail(rt, list, at, next, call, s)?;
             Ok(next)
         }
-        CallRead::Fault(n, place) => {
-            print_fault(rt, n, place)?;
+        Err(kind) => {
+            let place = Cursor { at: from.at };
+            print_fault(rt, Fault { kind, place })?;
             Ok(list.len())
         }
     }
@@ -301,14 +281,12 @@ fn replay_next(rt: &impl Print, file: &mut impl Read) -> io::Result<bool> {
 
 // The lists of the file; how many they are.
 fn replay_all(rt: &impl Print, file: &mut impl Read) -> io::Result<u64> {
-    let mut lists: u64 = 0;
-    while lists < 100000 {
+    for lists in 0..100000 {
         if !replay_next(rt, file)? {
             return Ok(lists);
         }
-        lists += 1;
     }
-    Ok(lists)
+    Ok(100000)
 }
 
 fn main(rt: HostRuntime) -> io::Result<()> {

@@ -7,15 +7,16 @@ ghost use Rattle.std.specs.Prelude.{◌≡◌, ◌+◌, ◌≤◌, ◌<◌, leng
 ghost use Rattle.gate_store_damaged.specs.Tally.{total};
 
 use model::delta_snapshot::{Retention, Slot};
+use model::refusal::Refusal;
 use model::storage_memo::{Address, ReadAnchor, U256};
 use std::io;
-use store::{InstallReply, LookReply, OpenReply, PutReply, ReadReply, TakeReply};
+use store::{InstallReply, Installed, LookReply, ReadOutcome, ReadReply, TakeReply};
 
 // The bytes of a store of four records.
 const STORE_SIZE: usize = layout::RECORDS_OFFSET + 4 * layout::RECORD_SIZE;
 
 // What a look on a damaged copy answers.
-#[derive(Clone, Copy)]
+#[derive(Clone, Copy, Debug, PartialEq, Eq)]
 pub enum Seen {
     NoStore,
     Same,
@@ -25,7 +26,7 @@ pub enum Seen {
 }
 
 // How many looks answered each of these.
-#[derive(Clone, Copy)]
+#[derive(Clone, Copy, Debug, PartialEq, Eq)]
 pub struct Tally {
     pub broken: usize,
     pub same: usize,
@@ -65,40 +66,29 @@ fn print(rt: &impl Print, label: &[u8], n: u64) -> io::Result<()> {
 }
 
 // A refusal's number, or 0.
-fn opened(r: OpenReply) -> u64 {
+fn done(r: Result<(), Refusal>) -> u64 {
     match r {
-        OpenReply::Refused(n) => n,
-        OpenReply::Opened => 0,
-    }
-}
-
-fn stored(r: PutReply) -> u64 {
-    match r {
-        PutReply::Refused(n) => n,
-        PutReply::Stored => 0,
+        Err(refusal) => refusal.number(),
+        Ok(()) => 0,
     }
 }
 
 // A refusal's number, 100 for the same anchor, 101 for another.
 fn installed(r: InstallReply) -> u64 {
     match r {
-        InstallReply::Refused(n) => n,
-        InstallReply::Same => 100,
-        InstallReply::Fresh => 101,
+        Err(refusal) => refusal.number(),
+        Ok(Installed::Same) => 100,
+        Ok(Installed::Fresh) => 101,
     }
-}
-
-fn is_same(a: U256, b: U256) -> bool {
-    a.w0 == b.w0 && a.w1 == b.w1 && a.w2 == b.w2 && a.w3 == b.w3
 }
 
 // A refusal's number, 100 for none, 1,000 and n for the value n below 1,000, 999 for any other value.
 fn looked(r: LookReply) -> u64 {
     match r {
-        LookReply::Refused(n) => n,
-        LookReply::Nothing => 100,
-        LookReply::Value(v) => {
-            if !is_same(v, word(v.w3 % 1000)) {
+        Err(refusal) => refusal.number(),
+        Ok(None) => 100,
+        Ok(Some(v)) => {
+            if v != word(v.w3 % 1000) {
                 return 999;
             }
             1000 + v.w3 % 1000
@@ -109,15 +99,11 @@ fn looked(r: LookReply) -> u64 {
 // What a look of slot 1 answers.
 fn look_again(s: &[u8], anchor: ReadAnchor) -> Seen {
     match store::look(s, anchor, slot(1)) {
-        LookReply::Refused(n) => {
-            if n == 20 {
-                return Seen::NoStore;
-            }
-            Seen::Refused
-        }
-        LookReply::Nothing => Seen::Nothing,
-        LookReply::Value(v) => {
-            if is_same(v, word(7)) {
+        Err(Refusal::NotAStore) => Seen::NoStore,
+        Err(_) => Seen::Refused,
+        Ok(None) => Seen::Nothing,
+        Ok(Some(v)) => {
+            if v == word(7) {
                 return Seen::Same;
             }
             Seen::Another
@@ -128,17 +114,17 @@ fn look_again(s: &[u8], anchor: ReadAnchor) -> Seen {
 // A refusal's number, 1,000 for a value, or 100 and the waiters.
 fn waits(r: ReadReply) -> u64 {
     match r {
-        ReadReply::Refused(n) => n,
-        ReadReply::Value(_) => 1000,
-        ReadReply::Waiting(n) => 100 + n % 100,
+        Err(refusal) => refusal.number(),
+        Ok(ReadOutcome::Value(_)) => 1000,
+        Ok(ReadOutcome::Waiting(n)) => 100 + n % 100,
     }
 }
 
 // A refusal's number, or 100 and the slots listed.
 fn listed(r: TakeReply) -> u64 {
     match r {
-        TakeReply::Refused(n) => n,
-        TakeReply::Listed(n) => 100 + n % 100,
+        Err(refusal) => refusal.number(),
+        Ok(n) => 100 + n % 100,
     }
 }
 
@@ -151,28 +137,16 @@ fn await_answers(rt: &impl Print, s: &mut [u8; STORE_SIZE], anchor: ReadAnchor) 
     print(rt, b"read 6 ", waits(store::read(s, anchor, slot(6))))
 }
 
-fn count(t: Tally, answer: Seen) -> Tally
-    requires { total t + 1 ≤ 1000000 }
-    ensures { total result ≡ total t + 1 }
+fn count(t: &mut Tally, answer: Seen)
+    requires { total t.old + 1 ≤ 1000000 }
+    ensures { total t.new ≡ total t.old + 1 }
 {
-    let mut broken = t.broken;
-    let mut same = t.same;
-    let mut another = t.another;
-    let mut nothing = t.nothing;
-    let mut refused = t.refused;
     match answer {
-        Seen::NoStore => broken += 1,
-        Seen::Same => same += 1,
-        Seen::Another => another += 1,
-        Seen::Nothing => nothing += 1,
-        Seen::Refused => refused += 1,
-    }
-    Tally {
-        broken,
-        same,
-        another,
-        nothing,
-        refused,
+        Seen::NoStore => t.broken += 1,
+        Seen::Same => t.same += 1,
+        Seen::Another => t.another += 1,
+        Seen::Nothing => t.nothing += 1,
+        Seen::Refused => t.refused += 1,
     }
 }
 
@@ -201,59 +175,36 @@ fn truncated(s: &[u8], anchor: ReadAnchor) -> Tally
     requires { length s.now ≤ 10000 }
 {
     let mut t = no_looks();
-    let mut n = 0;
-    while n < s.len() {
-        t = count(t, look_again(&s[0..n], anchor));
-        n += 1;
+    for n in 0..s.len() {
+        count(&mut t, look_again(&s[..n], anchor));
     }
     t
 }
 
-// A byte changed in one of four ways.
-fn changed(b: u8, way: u64) -> u8 {
-    match way {
-        0 => {
-            if b == 255 {
-                return 0;
-            }
-            b + 1
-        }
-        1 => {
-            if b < 128 {
-                return b + 128;
-            }
-            b - 128
-        }
-        2 => 0,
-        _ => 255,
-    }
-}
-
-// A look on the bytes with byte i changed, if that makes another byte.
-fn with_byte(s: &mut [u8], i: usize, way: u64, anchor: ReadAnchor, t: Tally) -> Tally
-    requires { (i < length s.old) × (total t + 1 ≤ 1000000) }
-    ensures { total result ≤ total t + 1 }
+// A look on the bytes with byte i replaced, if by another byte.
+fn with_byte(s: &mut [u8], i: usize, d: u8, anchor: ReadAnchor, t: &mut Tally)
+    requires { (i < length s.old) × (total t.old + 1 ≤ 1000000) }
+    ensures { total t.new ≤ total t.old + 1 }
 {
     let b = s[i];
-    let d = changed(b, way);
     if d == b {
-        return t;
+        return;
     }
     s[i] = d;
     let answer = look_again(s, anchor);
     s[i] = b;
-    count(t, answer)
+    count(t, answer);
 }
 
 // A look on the bytes with each byte changed in turn.
-fn damaged(s: &mut [u8], way: u64, anchor: ReadAnchor) -> Tally
-    requires { length s.old ≤ 10000 }
+fn damaged<F: Fn(u8) -> u8>(s: &mut [u8], change: F, anchor: ReadAnchor) -> Tally
+    requires small { length s.old ≤ 10000 }
+    requires callable { F.IsAlwaysCallable change }
 {
     let mut t = no_looks();
-    let mut i = 0;
-    while i < s.len() {
-        t = with_byte(s, i, way, anchor, t);
-        i += 1;
+    for i in 0..s.len() {
+        let d = change(s[i]);
+        with_byte(s, i, d, anchor, &mut t);
     }
     t
 }
@@ -263,13 +214,13 @@ fn damage(rt: &impl Print, s: &mut [u8; STORE_SIZE], anchor: ReadAnchor) -> io::
     say(rt, b"truncated copies\n")?;
     print_tally(rt, truncated(s, anchor))?;
     say(rt, b"copies with a byte one more\n")?;
-    print_tally(rt, damaged(s, 0, anchor))?;
+    print_tally(rt, damaged(s, |b| b.wrapping_add(1), anchor))?;
     say(rt, b"copies with a byte's top bit flipped\n")?;
-    print_tally(rt, damaged(s, 1, anchor))?;
+    print_tally(rt, damaged(s, |b| b ^ 128, anchor))?;
     say(rt, b"copies with a byte 0\n")?;
-    print_tally(rt, damaged(s, 2, anchor))?;
+    print_tally(rt, damaged(s, |_| 0, anchor))?;
     say(rt, b"copies with a byte 255\n")?;
-    print_tally(rt, damaged(s, 3, anchor))?;
+    print_tally(rt, damaged(s, |_| 255, anchor))?;
     print(rt, b"look 1 ", looked(store::look(s, anchor, slot(1))))
 }
 
@@ -284,27 +235,27 @@ fn main(rt: HostRuntime) -> io::Result<()> {
     print(
         &rt,
         b"open 0 ",
-        opened(store::open(&mut s, 0, 1, Retention::Unbounded)),
+        done(store::open(&mut s, 0, 1, Retention::Unbounded)),
     )?;
     print(
         &rt,
         b"open 4097 ",
-        opened(store::open(&mut s, 4097, 1, Retention::Unbounded)),
+        done(store::open(&mut s, 4097, 1, Retention::Unbounded)),
     )?;
     print(
         &rt,
         b"open depth 256 ",
-        opened(store::open(&mut s, 4, 256, Retention::Unbounded)),
+        done(store::open(&mut s, 4, 256, Retention::Unbounded)),
     )?;
     print(
         &rt,
         b"open 5 ",
-        opened(store::open(&mut s, 5, 1, Retention::Unbounded)),
+        done(store::open(&mut s, 5, 1, Retention::Unbounded)),
     )?;
     print(
         &rt,
         b"open 4 ",
-        opened(store::open(&mut s, 4, 1, Retention::IdleBlocks(2))),
+        done(store::open(&mut s, 4, 1, Retention::IdleBlocks(2))),
     )?;
     print(&rt, b"look ", looked(store::look(&s, anchor, slot(1))))?;
     print(&rt, b"install ", installed(store::install(&mut s, anchor)))?;
@@ -316,39 +267,39 @@ fn main(rt: HostRuntime) -> io::Result<()> {
     print(
         &rt,
         b"put 1 ",
-        stored(store::put(&mut s, anchor, slot(1), word(7))),
+        done(store::put(&mut s, anchor, slot(1), word(7))),
     )?;
     print(
         &rt,
         b"put 2 ",
-        stored(store::put(&mut s, anchor, slot(2), word(8))),
+        done(store::put(&mut s, anchor, slot(2), word(8))),
     )?;
     print(
         &rt,
         b"put elsewhere ",
-        stored(store::put(&mut s, ReadAnchor::at(9), slot(2), word(9))),
+        done(store::put(&mut s, ReadAnchor::at(9), slot(2), word(9))),
     )?;
     print(&rt, b"get 1 ", looked(store::get(&mut s, anchor, slot(1))))?;
     print(&rt, b"get 3 ", looked(store::get(&mut s, anchor, slot(3))))?;
     print(
         &rt,
         b"put 3 ",
-        stored(store::put(&mut s, anchor, slot(3), word(3))),
+        done(store::put(&mut s, anchor, slot(3), word(3))),
     )?;
     print(
         &rt,
         b"put 4 ",
-        stored(store::put(&mut s, anchor, slot(4), word(4))),
+        done(store::put(&mut s, anchor, slot(4), word(4))),
     )?;
     print(
         &rt,
         b"put 5 ",
-        stored(store::put(&mut s, anchor, slot(5), word(5))),
+        done(store::put(&mut s, anchor, slot(5), word(5))),
     )?;
     print(
         &rt,
         b"put 4 again ",
-        stored(store::put(&mut s, anchor, slot(4), word(6))),
+        done(store::put(&mut s, anchor, slot(4), word(6))),
     )?;
     print(&rt, b"look 4 ", looked(store::look(&s, anchor, slot(4))))?;
     await_answers(&rt, &mut s, anchor)?;

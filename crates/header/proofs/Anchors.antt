@@ -1,4 +1,5 @@
 -- Comparing the installed anchor with another word by word.
+use Rattle.std.specs.Prelude.{None, Option, Some}
 use Prim.Native.Nat.{ℕ, ◌+◌}
 use mathlib.Core.Path.{◌≡◌, refl, sym, ap, ◌∙◌}
 use mathlib.Core.Bool.{Bool, true, false, cond}
@@ -8,8 +9,6 @@ use lib.Dec.{eqb}
 use lib.ListN.{length, get_or}
 use borrow.Author.Tests.{eq-eqb, ne_eqb}
 use Rattle.model.specs.declared.storage_memo.U256.{U256}
-use Rattle.model.specs.declared.storage_memo.BlockHash.{BlockHash}
-use Rattle.model.specs.declared.storage_memo.BlockHash.TheVariants.{Unknown, Known}
 use Rattle.model.specs.declared.storage_memo.ReadAnchor.{ReadAnchor}
 use Rattle.model.specs.Slots.{at, identified, u256_words, words_eqb, u256_eqb, hash_eqb, anchor_eqb}
 use Rattle.model.proofs.SlotLaws.{and_true}
@@ -46,20 +45,20 @@ unfolding anchor_eqb
 anchor_hash a b {w} e n = rw (← e, eq-eqb w b.number n)
 
 -- A hash that the mark w says is known or not, against none and against one.
-pub against_none : (k : BlockHash) (w : ℕ) → w ≡ get_or (hash_words k) 0 0 → eqb w 0 ≡ hash_eqb k Unknown
-against_none Unknown w e = rw e
-against_none (Known h) w e = rw e
+pub against_none : (k : Option U256) (w : ℕ) → w ≡ get_or (hash_words k) 0 0 → eqb w 0 ≡ hash_eqb k None
+against_none None w e = rw e
+against_none (Some h) w e = rw e
 
-pub none_against : (k : BlockHash) (h : U256) (w : ℕ) → w ≡ get_or (hash_words k) 0 0 → w ≡ 0 → false ≡ hash_eqb k (Known h)
-none_against Unknown h w e z = refl
-none_against (Known k) h w e z = absurd (omega arith)
+pub none_against : (k : Option U256) (h : U256) (w : ℕ) → w ≡ get_or (hash_words k) 0 0 → w ≡ 0 → false ≡ hash_eqb k (Some h)
+none_against None h w e z = refl
+none_against (Some k) h w e z = absurd (omega arith)
 
-pub known_against : (k : BlockHash) (h : U256) (w w0 w1 w2 w3 : ℕ) → w ≡ get_or (hash_words k) 0 0 → (w ≡ 0 → ⊥)
+pub known_against : (k : Option U256) (h : U256) (w w0 w1 w2 w3 : ℕ) → w ≡ get_or (hash_words k) 0 0 → (w ≡ 0 → ⊥)
     → w0 ≡ get_or (hash_words k) 1 0 → w1 ≡ get_or (hash_words k) 2 0 → w2 ≡ get_or (hash_words k) 3 0 → w3 ≡ get_or (hash_words k) 4 0
-    → words_eqb (w0 ∷ w1 ∷ w2 ∷ w3 ∷ []) (u256_words h) ≡ hash_eqb k (Known h)
+    → words_eqb (w0 ∷ w1 ∷ w2 ∷ w3 ∷ []) (u256_words h) ≡ hash_eqb k (Some h)
 unfolding u256_eqb
-known_against Unknown h w w0 w1 w2 w3 e n e0 e1 e2 e3 = absurd (n e)
-known_against (Known k) h w w0 w1 w2 w3 e n e0 e1 e2 e3 = rw (e0, e1, e2, e3)
+known_against None h w w0 w1 w2 w3 e n e0 e1 e2 e3 = absurd (n e)
+known_against (Some k) h w w0 w1 w2 w3 e n e0 e1 e2 e3 = rw (e0, e1, e2, e3)
 
 -- The anchor of a number and a lent hash: empty, or not.
 module _ (h : List ℕ) (n : ℕ) where
@@ -80,8 +79,8 @@ module _ (h : List ℕ) (n : ℕ) where
           go true = refl
           go false = refl
 
-  pub lent_empty : (a : ReadAnchor) {w : ℕ} → w ≡ a.number → w ≡ n → length h ≡ 0 → hash_eqb a.hash Unknown ≡ anchor_eqb a (lent_anchor n h)
+  pub lent_empty : (a : ReadAnchor) {w : ℕ} → w ≡ a.number → w ≡ n → length h ≡ 0 → hash_eqb a.hash None ≡ anchor_eqb a (lent_anchor n h)
   lent_empty a e d z = anchor_hash a (at n) e d ∙ ap (anchor_eqb a) (empty_anchor z)
 
-  pub lent_full : (a : ReadAnchor) {w : ℕ} → w ≡ a.number → w ≡ n → (length h ≡ 0 → ⊥) → hash_eqb a.hash (Known (u256_at 0 h)) ≡ anchor_eqb a (lent_anchor n h)
+  pub lent_full : (a : ReadAnchor) {w : ℕ} → w ≡ a.number → w ≡ n → (length h ≡ 0 → ⊥) → hash_eqb a.hash (Some (u256_at 0 h)) ≡ anchor_eqb a (lent_anchor n h)
   lent_full a e d z = anchor_hash a (identified n (u256_at 0 h)) e d ∙ ap (anchor_eqb a) (full_anchor z)

@@ -1,8 +1,8 @@
 -- How the bytes of a store change where a fresh generation is installed, and how an open leaves them.
+use Rattle.std.specs.Prelude.{None, Some}
 use Prim.Native.Nat.{ℕ, ◌+◌, ◌-◌, ◌*◌, ◌≤◌, max}
 use mathlib.Core.Path.{◌≡◌, refl, sym, ap, ap₂, ◌∙◌}
 use mathlib.Core.List.{List, [], ◌∷◌, ◌++◌, append_assoc}
-use mathlib.Core.Option.{some, none}
 use native.Mathlib.Omega.{arith}
 use lib.ListN.{length, take, drop, replicate, length-append, length-replicate, replicate-append-replicate, take-append-drop}
 use lib.Seq.{length-take-le}
@@ -37,7 +37,7 @@ padded_tables n =
     ∙ ap (λ (k : ℕ). replicate {A = ℕ} k 0) f
 
 -- The words of a fresh generation: the mark, the anchor, and zeros.
-fresh_words : (n : ℕ) (a : ReadAnchor) → installed_words n (some (new_generation a void_base [])) ≡ (1 ∷ a.number ∷ hash_words a.hash) ++ replicate (counts_width + table_width + record_width * n) 0
+fresh_words : (n : ℕ) (a : ReadAnchor) → installed_words n (Some (new_generation a void_base [])) ≡ (1 ∷ a.number ∷ hash_words a.hash) ++ replicate (counts_width + table_width + record_width * n) 0
 unfolding layer_ends record_count flat_records all_record_words all_pending_words
 fresh_words n a =
     let t : List ℕ = replicate ends_limit 0 ++ (replicate awaiting_table 0 ++ replicate (record_width * n - 0) 0) in
@@ -46,7 +46,7 @@ fresh_words n a =
     ∙ ap (λ (l : List ℕ). hash_words a.hash ++ l) (ap (λ (l : List ℕ). replicate {A = ℕ} counts_width 0 ++ l) (padded_tables n) ∙ replicate-append-replicate counts_width (table_width + record_width * n) 0 ∙ ap (λ (k : ℕ). replicate {A = ℕ} k 0) e))
 
 -- The words of a store with nothing installed, after those that the open set.
-none_words : (n : ℕ) → installed_words n none ≡ replicate (generation_width + table_width + record_width * n) 0
+none_words : (n : ℕ) → installed_words n None ≡ replicate (generation_width + table_width + record_width * n) 0
 none_words n =
     let e : generation_width + (table_width + record_width * n) ≡ generation_width + table_width + record_width * n = omega arith in
     ap (λ (l : List ℕ). replicate {A = ℕ} generation_width 0 ++ l) (padded_tables n) ∙ replicate-append-replicate generation_width (table_width + record_width * n) 0 ∙ ap (λ (k : ℕ). replicate {A = ℕ} k 0) e
@@ -63,10 +63,10 @@ length_anchor a = length_bytes_of (1 ∷ a.number ∷ hash_words a.hash) ∙ ome
 
 -- A store with a fresh generation, and one with none.
 abbrev begun_store : Config → ReadAnchor → Store
-begun_store cfg a = record { config = cfg; installed = some (new_generation a void_base []) }
+begun_store cfg a = record { config = cfg; installed = Some (new_generation a void_base []) }
 
 abbrev empty_store : Config → Store
-empty_store cfg = record { config = cfg; installed = none }
+empty_store cfg = record { config = cfg; installed = None }
 
 -- Their images.
 begun_image : (cfg : Config) (a : ReadAnchor) → image (begun_store cfg a) ≡ bytes_of (config_words cfg) ++ (anchor_bytes a ++ replicate (store_size cfg.capacity - installed_offset - (depth_offset - installed_offset)) 0)
@@ -101,7 +101,7 @@ length_empty cfg =
     ∙ omega (arith, length_config cfg, length-replicate {A = ℕ} (store_size cfg.capacity - installed_offset) 0)
 
 -- A fresh generation: zeros from word 5 to the store's end, then the mark and the anchor.
-pub fresh_bytes : (b : List ℕ) (st : Store) (a : ReadAnchor) → Bytes b → decode b ≡ some st →
+pub fresh_bytes : (b : List ℕ) (st : Store) (a : ReadAnchor) → Bytes b → decode b ≡ Some st →
     overlay (begun st.config a) b ≡ placed installed_offset (anchor_bytes a) (placed installed_offset (replicate (store_size st.config.capacity - installed_offset) 0) b)
 unfolding image image_words
 fresh_bytes b st a f e =

@@ -13,7 +13,8 @@ ghost use Rattle.image.specs.Lent.{store_of, generation_of, IsStore, Installed};
 ghost use Rattle.header.specs.Header.{anchored_refusal, lent_anchor, config_of, empty, begun};
 
 use model::delta_snapshot::Retention;
-use model::storage_memo::{BlockHash, ReadAnchor, U256};
+use model::refusal::Refusal;
+use model::storage_memo::{ReadAnchor, U256};
 
 // The bytes between what the open sets and the records.
 const AFTER_CONFIG: usize = layout::RECORDS_OFFSET - layout::INSTALLED_OFFSET;
@@ -44,7 +45,7 @@ fn same_anchor(s: &[u8], anchor: ReadAnchor) -> bool
         return false;
     }
     let hash = anchor.hash;
-    let BlockHash::Known(h) = hash else {
+    let Some(h) = hash else {
         return words::read_u64(s, layout::HASH_OFFSET) == 0;
     };
     if words::read_u64(s, layout::HASH_OFFSET) == 0 {
@@ -113,7 +114,7 @@ pub fn begin(s: &mut [u8], anchor: ReadAnchor)
     );
     let hash = anchor.hash;
     match hash {
-        BlockHash::Unknown => write_anchor(
+        None => write_anchor(
             s,
             anchor.number,
             0,
@@ -124,22 +125,22 @@ pub fn begin(s: &mut [u8], anchor: ReadAnchor)
                 w3: 0,
             },
         ),
-        BlockHash::Known(h) => write_anchor(s, anchor.number, 1, h),
+        Some(h) => write_anchor(s, anchor.number, 1, h),
     }
 }
 
-// The refusal of a call at an anchor: 21, 22 or, if there is none, 0.
-pub fn guard(s: &[u8], anchor: ReadAnchor) -> u64
+// The refusal of a call at an anchor: nothing is installed, or another anchor.
+pub fn guard(s: &[u8], anchor: ReadAnchor) -> Result<(), Refusal>
     requires { IsStore s.now }
     ensures { result ≡ anchored_refusal (store_of s.now).installed anchor }
 {
     if !layers::is_installed(s) {
-        return 21;
+        return Err(Refusal::NothingInstalled);
     }
     if !same_anchor(s, anchor) {
-        return 22;
+        return Err(Refusal::AnotherAnchor);
     }
-    0
+    Ok(())
 }
 
 // Whether the four words at `at` are those that a lent hash begins with.
@@ -178,15 +179,15 @@ fn same_lent(s: &[u8], number: u64, hash: &[u8]) -> bool
 }
 
 // The refusal of a call at the anchor of a number and a lent hash, compared in place.
-pub fn guard_lent(s: &[u8], number: u64, hash: &[u8]) -> u64
+pub fn guard_lent(s: &[u8], number: u64, hash: &[u8]) -> Result<(), Refusal>
     requires { IsStore s.now × ((length hash.now ≡ 0 → ⊥) → 32 ≤ length hash.now) }
     ensures { result ≡ anchored_refusal (store_of s.now).installed (lent_anchor number hash.now) }
 {
     if !layers::is_installed(s) {
-        return 21;
+        return Err(Refusal::NothingInstalled);
     }
     if !same_lent(s, number, hash) {
-        return 22;
+        return Err(Refusal::AnotherAnchor);
     }
-    0
+    Ok(())
 }

@@ -1,17 +1,15 @@
 -- Bytes that are a store, part by part: each word of the header, the layer ends, and the records of each layer and of the top.
+use Rattle.std.specs.Prelude.{None, Option, Some}
 use Prim.Native.Nat.{ℕ, zero, suc, pred, ◌+◌, ◌-◌, ◌*◌, ◌^◌, ◌≤◌, ◌<◌}
 use mathlib.Core.Path.{◌≡◌, refl, sym, ap, subst, ◌∙◌}
 use mathlib.Core.Bool.{Bool, true, ◌&&◌, cond}
 use mathlib.Core.List.{List, [], ◌∷◌, ◌++◌, map, append_assoc, append-nil}
-use mathlib.Core.Option.{Option, some, none}
 use native.Mathlib.Omega.{arith}
 use lib.Dec.{eqb, ltb, lit<}
 use lib.ListN.{length, take, drop, get_or, replicate, take-append-drop, get_or-append}
 use borrow.Author.Tests.{ltb-true, ltb-false}
 use lib.Seq.{drop-length, take_at, drop_at, drop-drop, drop-cons, get_or-drop, get_or_at}
 use Rattle.layout.specs.Layout.{awaiting_count_index, awaiting_count_offset, awaiting_index, awaiting_offset, awaiting_width, capacity_index, capacity_offset, depth_index, depth_offset, ends_index, ends_offset, hash_index, hash_offset, idle_index, idle_offset, installed_index, installed_offset, magic, max_depth_index, max_depth_offset, number_index, number_offset, record_size, record_width, records_count_index, records_count_offset, records_index, records_offset, retention_index, retention_offset, totals_index, totals_offset}
-use Rattle.model.specs.declared.storage_memo.BlockHash.{BlockHash}
-use Rattle.model.specs.declared.storage_memo.BlockHash.TheVariants.{Unknown, Known}
 use Rattle.model.specs.declared.delta_snapshot.Retention.{Retention}
 use Rattle.model.specs.declared.delta_snapshot.Retention.TheVariants.{Unbounded, IdleBlocks}
 use Rattle.model.specs.Numbers.{num}
@@ -28,6 +26,7 @@ use Rattle.image.proofs.Entries.{length_records, read_records, length_flat, leng
 use Rattle.image.proofs.Facts.{ConfigFacts, GenerationFacts, generation_facts, StoreFacts, store_facts}
 use Rattle.image.proofs.Extent.{room}
 use Rattle.image.proofs.ReadBack.{drop_ends, drop_awaiting, Begins, decode_some}
+use Rattle.model.specs.declared.storage_memo.U256.{U256}
 
 -- Words by place --------------------------------------------------------------------------------------
 
@@ -166,9 +165,9 @@ retention_two Unbounded = refl
 retention_two (IdleBlocks n) = refl
 
 -- A hash, known or not, takes five.
-hash_five : (h : BlockHash) → let w : List ℕ = hash_words h in w ≡ get_or w 0 0 ∷ get_or w 1 0 ∷ get_or w 2 0 ∷ get_or w 3 0 ∷ get_or w 4 0 ∷ []
-hash_five Unknown = refl
-hash_five (Known h) = refl
+hash_five : (h : Option U256) → let w : List ℕ = hash_words h in w ≡ get_or w 0 0 ∷ get_or w 1 0 ∷ get_or w 2 0 ∷ get_or w 3 0 ∷ get_or w 4 0 ∷ []
+hash_five None = refl
+hash_five (Some h) = refl
 
 -- The words of the header one by one: 5 of the open, then 19 of a generation.
 abbrev config_list : Config → List ℕ → List ℕ
@@ -197,13 +196,13 @@ image_is : (st : Store) → image_words st ≡ config_list st.config (installed_
 unfolding image_words
 image_is st = config_is st.config (installed_words st.config.capacity st.installed)
 
-installed_is : (st : Store) (g : Generation) → st.installed ≡ some g → image_words st ≡ config_list st.config (generation_list g (tables st.config g))
+installed_is : (st : Store) (g : Generation) → st.installed ≡ Some g → image_words st ≡ config_list st.config (generation_list g (tables st.config g))
 installed_is st g e =
     image_is st
     ∙ ap (λ (i : Option Generation). config_list st.config (installed_words st.config.capacity i)) e
     ∙ ap (config_list st.config) (generation_is g (tables st.config g))
 
-none_is : (st : Store) → st.installed ≡ none → image_words st ≡ config_list st.config (installed_words st.config.capacity none)
+none_is : (st : Store) → st.installed ≡ None → image_words st ≡ config_list st.config (installed_words st.config.capacity None)
 none_is st e = image_is st ∙ ap (λ (i : Option Generation). config_list st.config (installed_words st.config.capacity i)) e
 
 -- What the words of a retention and of a hash read as.
@@ -211,9 +210,9 @@ pub retention_read : (R : Retention) → cond (eqb (get_or (retention_words R) 0
 retention_read Unbounded = refl
 retention_read (IdleBlocks n) = refl
 
-pub hash_read : (h : BlockHash) → read_hash (hash_words h) ≡ h
-hash_read Unknown = refl
-hash_read (Known h) = refl
+pub hash_read : (h : Option U256) → read_hash (hash_words h) ≡ h
+hash_read None = refl
+hash_read (Some h) = refl
 
 -- Bytes that are a store ------------------------------------------------------------------------------
 
@@ -233,7 +232,7 @@ pub record StoreBytes (b : List ℕ) (st : Store) : Type 0 where
   pub depth_limit_word : word max_depth_offset b ≡ st.config.max_depth
   pub retention_word : word retention_offset b ≡ get_or (retention_words st.config.retention) 0 0
   pub idle_word : word idle_offset b ≡ get_or (retention_words st.config.retention) 1 0
-  pub none_word : st.installed ≡ none → word installed_offset b ≡ 0
+  pub none_word : st.installed ≡ None → word installed_offset b ≡ 0
 
 -- A layer whose records stand from record number `from` on.
 pub record Area (b : List ℕ) (from : ℕ) (l : Layer) : Type 0 where
@@ -259,7 +258,7 @@ pub record GenerationBytes (b : List ℕ) (st : Store) (g : Generation) : Type 0
   pub top : Area b (record_count g.base) g.top
   pub awaiting : pending_of (length g.pending) (drop awaiting_offset b) ≡ g.pending
 
-pub store_bytes : (b : List ℕ) (st : Store) → decode b ≡ some st → StoreBytes b st
+pub store_bytes : (b : List ℕ) (st : Store) → decode b ≡ Some st → StoreBytes b st
 store_bytes b st e =
     let h : Begins b st = decode_some b st e in
     let f : StoreFacts st = store_facts st h.right in
@@ -282,7 +281,7 @@ store_bytes b st e =
     }
 
 -- A store with a generation: its words from a place on, its layers, its awaiting slots.
-module _ (b : List ℕ) (st : Store) (g : Generation) (e : decode b ≡ some st) (i : st.installed ≡ some g) where
+module _ (b : List ℕ) (st : Store) (g : Generation) (e : decode b ≡ Some st) (i : st.installed ≡ Some g) where
   abbrev all_words : List ℕ
   all_words = config_list st.config (generation_list g (tables st.config g))
 

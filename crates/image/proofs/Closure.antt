@@ -1,10 +1,10 @@
 -- From any well-formed memory every call leaves a well-formed one.
+use Rattle.std.specs.Prelude.{None, Option, Some, is_some}
 use Prim.Native.Nat.{ℕ, suc, ◌+◌, ◌≤◌, ◌<◌, max}
 use native.Mathlib.Omega.{arith}
 use mathlib.Core.Path.{◌≡◌, refl}
 use mathlib.Core.Bool.{Bool, true, false, not, ◌&&◌, ◌||◌}
 use mathlib.Core.List.{List, []}
-use mathlib.Core.Option.{Option, some, none}
 use lib.Dec.{eqb, leb, ltb}
 use lib.ListN.{length}
 use borrow.Author.Tests.{le-leb, ltb-true, ltb-false, lt-ltb, eqb-false}
@@ -12,7 +12,6 @@ use Rattle.model.specs.declared.delta_snapshot.Slot.{Slot}
 use Rattle.model.specs.declared.storage_memo.ReadAnchor.{ReadAnchor}
 use Rattle.model.specs.declared.delta_snapshot.Retention.{Retention}
 use Rattle.model.specs.Slots.{Value, anchor_eqb, fits_64}
-use Rattle.model.specs.Contents.{is_some}
 use Rattle.model.specs.Layers.{Layer, record_count}
 use Rattle.model.specs.declared.read_hub.ReadTotals.{ReadTotals}
 use Rattle.model.specs.declared.read_hub.Lineage.{Lineage}
@@ -68,8 +67,8 @@ number_fits a e = and_left (fits_64 a.number) _ e
 
 -- What a call of demand 3 leaves installed.
 abbrev InstalledOk : Config → Option Generation → Type 0
-InstalledOk cfg none = Unit {0}
-InstalledOk cfg (some g) = GenerationOk cfg g
+InstalledOk cfg None = Unit {0}
+InstalledOk cfg (Some g) = GenerationOk cfg g
 
 not_false : (b : Bool) → not b ≡ false → b ≡ true
 not_false true e = refl
@@ -128,13 +127,13 @@ module _ (cfg : Config) (child : ReadAnchor) (p : Prepared) (child_fits : anchor
 
 -- A memory with a store.
 abbrev memory_of : Config → Option Generation → Memory
-memory_of cfg o = some (record { config = cfg; installed = o })
+memory_of cfg o = Some (record { config = cfg; installed = o })
 
 module _ (cfg : Config) (g : Generation) (k : GenerationOk cfg g) where
   number_fit : fits_64 g.anchor.number ≡ true
   number_fit = number_fits g.anchor k.anchor_fit
 
-  touched_ok : (s : Slot) (x : Value) → slot_fits s ≡ true → resolved cfg.retention g s ≡ some x → TopOk cfg.retention g.anchor.number g.base (touched_top g s)
+  touched_ok : (s : Slot) (x : Value) → slot_fits s ≡ true → resolved cfg.retention g s ≡ Some x → TopOk cfg.retention g.anchor.number g.base (touched_top g s)
   touched_ok s x f e = top_ok_touch g.top k.records_right number_fit s f x e
 
   -- Another top, and other awaiting slots and totals.
@@ -142,26 +141,26 @@ module _ (cfg : Config) (g : Generation) (k : GenerationOk cfg g) where
   changed_ok t q r a b = record { anchor_fit = k.anchor_fit; records_right = a; some_layer = k.some_layer; few_layers = k.few_layers; reads_right = b }
 
   get_ok : (s : Slot) → slot_fits s ≡ true → (o : Option Value) → resolved cfg.retention g s ≡ o → InstalledOk cfg (perform_get g s o).installed
-  get_ok s f none e = k
-  get_ok s f (some x) e = changed_ok _ _ _ (touched_ok s x f e) k.reads_right
+  get_ok s f None e = k
+  get_ok s f (Some x) e = changed_ok _ _ _ (touched_ok s x f e) k.reads_right
 
   module _ (l : Lent) (a : ReadAnchor) where
-    read_ok : (s : Slot) → slot_fits s ≡ true → Unrefused (memory_of cfg (some g)) l (on_store (at_anchor a (on_slot (read s)))) → (o : Option Value) → resolved cfg.retention g s ≡ o → InstalledOk cfg (perform_read g s o).installed
+    read_ok : (s : Slot) → slot_fits s ≡ true → Unrefused (memory_of cfg (Some g)) l (on_store (at_anchor a (on_slot (read s)))) → (o : Option Value) → resolved cfg.retention g s ≡ o → InstalledOk cfg (perform_read g s o).installed
     unfolding reads_exhausted queue_full
-    read_ok s f r none e =
+    read_ok s f r None e =
         let room : (not (is_some (resolved cfg.retention g s)) && not (is_awaiting s g.pending) && leb 64 (length g.pending)) ≡ false = r.queue_has_room in
         changed_ok _ _ _ k.records_right (reads_ok_waiting g.pending g.totals k.reads_right s f r.reads_left (λ y. rw (e, y) at room))
-    read_ok s f r (some x) e = changed_ok _ _ _ (touched_ok s x f e) (reads_ok_served g.pending g.totals k.reads_right r.reads_left)
+    read_ok s f r (Some x) e = changed_ok _ _ _ (touched_ok s x f e) (reads_ok_served g.pending g.totals k.reads_right r.reads_left)
 
     -- An answer of either kind.
-    answer_ok : (c : AnchoredCall) (t : Layer) (vs rs : List Slot) (e : ℕ) → Unrefused (memory_of cfg (some g)) l (on_store (at_anchor a c)) → TopOk cfg.retention g.anchor.number g.base t
+    answer_ok : (c : AnchoredCall) (t : Layer) (vs rs : List Slot) (e : ℕ) → Unrefused (memory_of cfg (Some g)) l (on_store (at_anchor a c)) → TopOk cfg.retention g.anchor.number g.base t
         → woken vs g.pending + woken rs g.pending ≡ woken (answered_slots c) g.pending → e ≤ length (answered_slots c) → InstalledOk cfg (perform_answer g t (answered_slots c) vs rs e).installed
     unfolding answer_names_twice answered_not_taken
     answer_ok c t vs rs e r h w n =
         changed_ok t _ _ h
         (reads_ok_answer g.pending g.totals k.reads_right (answered_slots c) vs rs e r.answer_names_once (not_false _ r.answered_taken) w n)
 
-    at_ok : (c : AnchoredCall) → anchored_fits c ≡ true → Unrefused (memory_of cfg (some g)) l (on_store (at_anchor a c)) → InstalledOk cfg (perform_at cfg g c).installed
+    at_ok : (c : AnchoredCall) → anchored_fits c ≡ true → Unrefused (memory_of cfg (Some g)) l (on_store (at_anchor a c)) → InstalledOk cfg (perform_at cfg g c).installed
     at_ok (on_slot (look s)) f r = k
     at_ok (on_slot (get s)) f r = get_ok s f (resolved cfg.retention g s) refl
     at_ok (on_slot (put s v)) f r = changed_ok _ _ _ (top_ok_settle g.top k.records_right number_fit s (and_left (slot_fits s) _ f) v (and_right (slot_fits s) _ f)) k.reads_right
@@ -175,10 +174,10 @@ module _ (cfg : Config) (g : Generation) (k : GenerationOk cfg g) where
 -- Every call ------------------------------------------------------------------------------------------
 
 -- With a generation installed, and with none.
-perform_some_ok : (cfg : Config) (g : Generation) (l : Lent) (c : StoreCall) → 0 < cfg.max_depth → GenerationOk cfg g → store_call_fits c ≡ true → Unrefused (memory_of cfg (some g)) l (on_store c) → InstalledOk cfg (perform_some cfg g c).installed
+perform_some_ok : (cfg : Config) (g : Generation) (l : Lent) (c : StoreCall) → 0 < cfg.max_depth → GenerationOk cfg g → store_call_fits c ≡ true → Unrefused (memory_of cfg (Some g)) l (on_store c) → InstalledOk cfg (perform_some cfg g c).installed
 perform_some_ok cfg g l (install a) d k f r = split (anchor_eqb g.anchor a) (λ e. rw e k) (λ e. rw e (fresh_ok cfg a f))
 perform_some_ok cfg g l (advance child h p) d k f r =
-    let q : Lineage = classify_link (some g.anchor) child h in
+    let q : Lineage = classify_link (Some g.anchor) child h in
     let cf : anchor_fits child ≡ true = and_left (anchor_fits child) _ f in
     let wf : writes_fit p.writes ≡ true = and_right (anchor_fits child) _ f in
     split (anchor_eqb g.anchor child) (λ e. rw e k) (λ e. rw e
@@ -194,13 +193,13 @@ perform_none_ok cfg (at_anchor a c) f = tt
 
 perform_ok : (cfg : Config) (o : Option Generation) (l : Lent) (c : StoreCall) → 0 < cfg.max_depth → installed_ok cfg o ≡ true → store_call_fits c ≡ true → Unrefused (memory_of cfg o) l (on_store c) → InstalledOk cfg (perform cfg o c).installed
 unfolding perform
-perform_ok cfg none l c d e f r = perform_none_ok cfg c f
-perform_ok cfg (some g) l c d e f r = perform_some_ok cfg g l c d (generation_parts cfg g e) f r
+perform_ok cfg None l c d e f r = perform_none_ok cfg c f
+perform_ok cfg (Some g) l c d e f r = perform_some_ok cfg g l c d (generation_parts cfg g e) f r
 
 -- What is installed is well formed if its records are within the capacity.
 installed_ok_parts : (cfg : Config) (o : Option Generation) → InstalledOk cfg o → if_installed o (λ g. ltb cfg.capacity (record_count (chain g))) ≡ false → installed_ok cfg o ≡ true
-installed_ok_parts cfg none k e = refl
-installed_ok_parts cfg (some g) k e = generation_ok_parts cfg g k e
+installed_ok_parts cfg None k e = refl
+installed_ok_parts cfg (Some g) k e = generation_ok_parts cfg g k e
 
 -- A store's depth limit is at least 1.
 pub depth_some : (cfg : Config) → config_ok cfg ≡ true → 0 < cfg.max_depth
@@ -228,14 +227,14 @@ open_ok m l capacity depth R f r =
     rw (lt-ltb 0 capacity (omega arith), le-leb capacity 4096 c1, lt-ltb 0 (max 1 depth) (omega arith), le-leb (max 1 depth) 255 (omega arith), f)
 
 -- Bytes that are no store stay none.
-accept_none : (c : StoreCall) → memory_ok (accept none (on_store c)).memory ≡ true
+accept_none : (c : StoreCall) → memory_ok (accept None (on_store c)).memory ≡ true
 unfolding accept
 accept_none c = refl
 
 accept_ok : (m : Memory) (l : Lent) (c : Call) → memory_ok m ≡ true → call_fits c ≡ true → Unrefused m l c → memory_ok (accept m c).memory ≡ true
 accept_ok m l (open_store capacity depth R) e f r = open_ok m l capacity depth R f r
-accept_ok none l (on_store c) e f r = accept_none c
-accept_ok (some st) l (on_store c) e f r = on_store_ok st.config st.installed l c e f r
+accept_ok None l (on_store c) e f r = accept_none c
+accept_ok (Some st) l (on_store c) e f r = on_store_ok st.config st.installed l c e f r
 
 -- A refused call leaves the memory as it was.
 pub closure : Closure
@@ -243,5 +242,5 @@ unfolding step
 closure m c e f = go (refusal m c.lent c.call) refl
   where
     go : (o : Option ℕ) → refusal m c.lent c.call ≡ o → memory_ok (conclude o m (accept m c.call)).memory ≡ true
-    go none r = accept_ok m c.lent c.call e f (unrefused m c.lent c.call r)
-    go (some n) r = e
+    go None r = accept_ok m c.lent c.call e f (unrefused m c.lent c.call r)
+    go (Some n) r = e

@@ -1,8 +1,8 @@
 -- Demand 3 on lent bytes: from the calls on states, which the calls on bytes are.
+use Rattle.std.specs.Prelude.{Some}
 use Prim.Native.Nat.{ℕ}
 use mathlib.Core.Path.{◌≡◌, refl, sym, ap, ◌∙◌, subst}
 use mathlib.Core.List.{List, [], ◌∷◌, map}
-use mathlib.Core.Option.{some}
 use lib.ListN.{length}
 use Rattle.model.specs.Store.{Call, Memory}
 use Rattle.model.specs.Refusals.{Answer, trace, final}
@@ -23,7 +23,7 @@ pub demand_on_bytes : Closure → DemandOnBytes
 demand_on_bytes closed cfg b cs fresh f =
     let n : ℕ = length b in
     let o : OnBytes b cs = on_bytes closed b cs f in
-    let m : Memory = some (fresh_store cfg) in
+    let m : Memory = Some (fresh_store cfg) in
     let a : trace m (map (lent_call n) cs) ≡ bytes_trace b cs = sym (o.answers ∙ ap (λ (x : Memory). trace x (map (lent_call n) cs)) fresh) in
     let e : final m (map (lent_call n) cs) ≡ decode (bytes_final b cs) = sym (o.reads_as ∙ ap (λ (x : Memory). final x (map (lent_call n) cs)) fresh) in
     let r : RunAgrees (trace m (map (lent_call n) cs)) (final m (map (lent_call n) cs)) (fresh_ledger cfg) (calls_of (map (lent_call n) cs)) =

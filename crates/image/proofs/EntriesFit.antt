@@ -1,9 +1,9 @@
 -- Entries of lists of bytes fit the code's types. Assumes nothing.
+use Rattle.std.specs.Prelude.{None, Some}
 use Prim.Native.Nat.{ℕ, zero, suc, ◌+◌, ◌^◌, ◌/◌}
 use mathlib.Core.Path.{◌≡◌, refl}
 use mathlib.Core.Bool.{Bool, true, false, cond}
 use mathlib.Core.List.{List, map}
-use mathlib.Core.Option.{some, none}
 use borrow.Author.Tests.{lt-ltb}
 use lib.Dec.{eqb}
 use lib.ListN.{length, take, drop, get_or}
@@ -39,7 +39,7 @@ write_chunks_fit (suc n) b f =
     let g : Bytes (take 84 b) = bytes_take 84 b f in
     and_intro _ _ (slot_of_fits (take 84 b) g) (and_intro _ _ (u256_at_fits 52 (take 84 b) g) (write_chunks_fit n (drop 84 b) (bytes_drop 84 b f)))
 
-outcome_of_fits : (t : Bool) (v : U256) → u256_fits v ≡ true → value_fits (cond t none (some v)) ≡ true
+outcome_of_fits : (t : Bool) (v : U256) → u256_fits v ≡ true → value_fits (cond t None (Some v)) ≡ true
 outcome_of_fits true v f = refl
 outcome_of_fits false v f = f
 

@@ -1,15 +1,13 @@
 -- The words of a well-formed store: there are as many as its capacity asks for, and each has 64 bits.
+use Rattle.std.specs.Prelude.{None, Option, Some}
 use Prim.Native.Nat.{ℕ, suc, pred, ◌+◌, ◌*◌, ◌^◌, ◌≤◌, ◌<◌}
 use mathlib.Core.Path.{◌≡◌, refl, ap, ◌∙◌}
 use mathlib.Core.Bool.{Bool, true}
 use mathlib.Core.List.{List, [], ◌++◌}
-use mathlib.Core.Option.{Option, some, none}
 use native.Mathlib.Omega.{arith}
 use lib.Dec.{lit<, lit≤}
 use lib.ListN.{length, replicate, length-append}
 use Rattle.layout.specs.Layout.{awaiting_table, ends_limit, generation_width, record_width, table_width}
-use Rattle.model.specs.declared.storage_memo.BlockHash.{BlockHash}
-use Rattle.model.specs.declared.storage_memo.BlockHash.TheVariants.{Unknown, Known}
 use Rattle.model.specs.declared.delta_snapshot.Retention.{Retention}
 use Rattle.model.specs.declared.delta_snapshot.Retention.TheVariants.{Unbounded, IdleBlocks}
 use Rattle.model.specs.declared.read_hub.ReadTotals.{ReadTotals}
@@ -25,6 +23,7 @@ use Rattle.model.proofs.WordLaws.{Fit, fit_nil, fit_cons, fit_append, fit_zeros,
 use Rattle.image.proofs.Words.{length_padded, fit_padded}
 use Rattle.image.proofs.Entries.{fit_chain, fit_ends, fit_pendings, length_records, length_flat, length_ends, length_pending}
 use Rattle.image.proofs.Facts.{ConfigFacts, TotalsFacts, GenerationFacts, generation_facts, StoreFacts, store_facts}
+use Rattle.model.specs.declared.storage_memo.U256.{U256}
 
 -- Lengths ---------------------------------------------------------------------------------------------
 
@@ -32,9 +31,9 @@ length_retention : (R : Retention) → length (retention_words R) ≡ 2
 length_retention Unbounded = refl
 length_retention (IdleBlocks n) = refl
 
-length_hash : (h : BlockHash) → length (hash_words h) ≡ 5
-length_hash Unknown = refl
-length_hash (Known h) = refl
+length_hash : (h : Option U256) → length (hash_words h) ≡ 5
+length_hash None = refl
+length_hash (Some h) = refl
 
 length_generation : (g : Generation) → length (generation_words g) ≡ 19
 length_generation g = ap (λ (n : ℕ). suc (suc n)) (length-append (hash_words g.anchor.hash) _) ∙ omega (arith, length_hash g.anchor.hash)
@@ -63,10 +62,10 @@ room cfg g c f =
     }
 
 length_installed : (cfg : Config) (i : Option Generation) → ConfigFacts cfg → installed_ok cfg i ≡ true → length (installed_words cfg.capacity i) ≡ generation_width + table_width + record_width * cfg.capacity
-length_installed cfg none c e =
+length_installed cfg None c e =
     length-append (replicate {A = ℕ} generation_width 0) (table_words cfg.capacity [] [] [])
     ∙ omega (arith, length_tables cfg.capacity [] [] [] (empty_room cfg.capacity))
-length_installed cfg (some g) c e =
+length_installed cfg (Some g) c e =
     length-append (generation_words g) _
     ∙ omega (arith, length_generation g, length_tables _ _ _ _ (room cfg g c (generation_facts cfg g e)))
 
@@ -83,9 +82,9 @@ fit_retention : (R : Retention) → retention_fits R ≡ true → Fit (retention
 fit_retention Unbounded e = fit_cons (lit< tt) (fit_cons (lit< tt) fit_nil)
 fit_retention (IdleBlocks n) e = fit_cons (lit< tt) (fit_cons (fits n e) fit_nil)
 
-fit_hash : (h : BlockHash) → hash_fits h ≡ true → Fit (hash_words h)
-fit_hash Unknown e = fit_zeros 5
-fit_hash (Known h) e = fit_cons (lit< tt) (fit_u256 h e)
+fit_hash : (h : Option U256) → hash_fits h ≡ true → Fit (hash_words h)
+fit_hash None e = fit_zeros 5
+fit_hash (Some h) e = fit_cons (lit< tt) (fit_u256 h e)
 
 -- Read totals, each of which fits a word.
 pub fit_totals : (t : ReadTotals) → t.accepted < 2 ^ 64 → t.served < 2 ^ 64 → t.waiting < 2 ^ 64 → t.valued < 2 ^ 64 → t.refused < 2 ^ 64 → t.rounds < 2 ^ 64 → t.members < 2 ^ 64 → t.errors < 2 ^ 64 → t.coalesced < 2 ^ 64 → Fit (totals_words t)
@@ -111,8 +110,8 @@ fit_tables n p q s = fit_append (fit_padded ends_limit p) (fit_append (fit_padde
 
 fit_installed : (cfg : Config) (i : Option Generation) → ConfigFacts cfg → installed_ok cfg i ≡ true → Fit (installed_words cfg.capacity i)
 unfolding record_count
-fit_installed cfg none c e = fit_append (fit_zeros 19) (fit_tables cfg.capacity fit_nil fit_nil fit_nil)
-fit_installed cfg (some g) c e =
+fit_installed cfg None c e = fit_append (fit_zeros 19) (fit_tables cfg.capacity fit_nil fit_nil fit_nil)
+fit_installed cfg (Some g) c e =
     let f : GenerationFacts cfg g = generation_facts cfg g e in
     let t : TotalsFacts g.pending g.totals = f.totals_add_up in
     let below : record_count g.base < 2 ^ 64 = omega arith in

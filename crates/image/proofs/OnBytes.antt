@@ -1,9 +1,9 @@
 -- Calls on lent bytes are the calls on the states that the bytes read as.
+use Rattle.std.specs.Prelude.{None, Option, Some}
 use Prim.Native.Nat.{ℕ, ◌≤◌}
 use mathlib.Core.Path.{◌≡◌, refl, ap, ap₂, ◌∙◌}
 use mathlib.Core.Bool.{true, false}
 use mathlib.Core.List.{List, [], ◌∷◌, map}
-use mathlib.Core.Option.{Option, some, none}
 use native.Mathlib.Omega.{arith}
 use lib.Dec.{ltb}
 use lib.ListN.{length, drop, length-append, length-drop}
@@ -18,17 +18,17 @@ use Rattle.image.proofs.ReadBack.{decode_some, length_image, decode_image}
 
 -- The bytes that a state needs.
 abbrev needed : Memory → ℕ
-needed none = 0
-needed (some st) = store_size st.config.capacity
+needed None = 0
+needed (Some st) = store_size st.config.capacity
 
 -- What lent bytes read as is well formed, and they are long enough for it.
 decode_ok : (b : List ℕ) (m : Memory) → decode b ≡ m → memory_ok m ≡ true
-decode_ok b none e = refl
-decode_ok b (some st) e = (decode_some b st e).right
+decode_ok b None e = refl
+decode_ok b (Some st) e = (decode_some b st e).right
 
 decode_room : (b : List ℕ) (m : Memory) → decode b ≡ m → needed m ≤ length b
-decode_room b none e = omega arith
-decode_room b (some st) e = omega (arith, (decode_some b st e).long)
+decode_room b None e = omega arith
+decode_room b (Some st) e = omega (arith, (decode_some b st e).long)
 
 -- Bytes after a call ----------------------------------------------------------------------------------
 
@@ -38,15 +38,15 @@ pub record Holds (b : List ℕ) (n : ℕ) (m : Memory) : Type 0 where
   pub reads : decode b ≡ m
 
 -- A well-formed state laid over bytes that are long enough for it; no state, over bytes that are none.
-laid_over : (b : List ℕ) (m : Memory) → memory_ok m ≡ true → needed m ≤ length b → (m ≡ none → decode b ≡ none) → Holds (overlay m b) (length b) m
-laid_over b none e h k = record { as_long = refl; reads = k refl }
-laid_over b (some st) e h k = record {
+laid_over : (b : List ℕ) (m : Memory) → memory_ok m ≡ true → needed m ≤ length b → (m ≡ None → decode b ≡ None) → Holds (overlay m b) (length b) m
+laid_over b None e h k = record { as_long = refl; reads = k refl }
+laid_over b (Some st) e h k = record {
   as_long = length-append (image st) (drop (length (image st)) b) ∙ omega (arith, length-drop (length (image st)) b, length_image st e);
   reads = decode_image st (drop (length (image st)) b) e;
 }
 
 -- Where no condition of a list holds, the first does not, and none of the rest does.
-none_holds : (k : Condition) (ks : List Condition) → first_that_holds (k ∷ ks) ≡ none → (k.holds ≡ false) × (first_that_holds ks ≡ none)
+none_holds : (k : Condition) (ks : List Condition) → first_that_holds (k ∷ ks) ≡ None → (k.holds ≡ false) × (first_that_holds ks ≡ None)
 unfolding first_that_holds
 none_holds k ks e =
     split k.holds
@@ -54,7 +54,7 @@ none_holds k ks e =
     (λ t. (t, rw t at e))
 
 -- Of an open that is not refused, the lent bytes are long enough.
-open_room : (m : Memory) (l : Lent) (capacity depth : ℕ) (R : Retention) → refusal m l (open_store capacity depth R) ≡ none → store_size capacity ≤ l.store_bytes
+open_room : (m : Memory) (l : Lent) (capacity depth : ℕ) (R : Retention) → refusal m l (open_store capacity depth R) ≡ None → store_size capacity ≤ l.store_bytes
 unfolding refusal conditions lent_too_short
 open_room m l n d R e =
     let e₁ = none_holds _ _ e in
@@ -67,22 +67,22 @@ open_room m l n d R e =
     ltb-false l.store_bytes (store_size n) (or_false_left (ltb l.store_bytes (store_size n)) _ e₇.0)
 
 -- An accepted call leaves a state that the bytes have room for, and none only where there was none.
-accepted_room : (m : Memory) (l : Lent) (c : Call) → needed m ≤ l.store_bytes → refusal m l c ≡ none → needed (accept m c).memory ≤ l.store_bytes
+accepted_room : (m : Memory) (l : Lent) (c : Call) → needed m ≤ l.store_bytes → refusal m l c ≡ None → needed (accept m c).memory ≤ l.store_bytes
 unfolding accept
 accepted_room m l (open_store n d R) h e = open_room m l n d R e
-accepted_room none l (on_store c) h e = h
-accepted_room (some st) l (on_store c) h e = h
+accepted_room None l (on_store c) h e = h
+accepted_room (Some st) l (on_store c) h e = h
 
-accepted_none : (m : Memory) (c : Call) → (accept m c).memory ≡ none → m ≡ none
+accepted_none : (m : Memory) (c : Call) → (accept m c).memory ≡ None → m ≡ None
 unfolding accept
-accepted_none none c e = refl
-accepted_none (some st) (open_store n d R) e = cc
-accepted_none (some st) (on_store c) e = cc
+accepted_none None c e = refl
+accepted_none (Some st) (open_store n d R) e = cc
+accepted_none (Some st) (on_store c) e = cc
 
-concluded : (b : List ℕ) (m : Memory) (r : Option ℕ) (a : Accepted) → decode b ≡ m → memory_ok (conclude r m a).memory ≡ true → (r ≡ none → needed a.memory ≤ length b) → (a.memory ≡ none → m ≡ none) →
+concluded : (b : List ℕ) (m : Memory) (r : Option ℕ) (a : Accepted) → decode b ≡ m → memory_ok (conclude r m a).memory ≡ true → (r ≡ None → needed a.memory ≤ length b) → (a.memory ≡ None → m ≡ None) →
     Holds (bytes_after (conclude r m a) b) (length b) (conclude r m a).memory
-concluded b m none a e p h k = laid_over b a.memory p (h refl) (λ z. e ∙ k z)
-concluded b m (some n) a e p h k = record { as_long = refl; reads = e }
+concluded b m None a e p h k = laid_over b a.memory p (h refl) (λ z. e ∙ k z)
+concluded b m (Some n) a e p h k = record { as_long = refl; reads = e }
 
 pub step_holds : Closure → (b : List ℕ) (c : BytesCall) → call_fits c.call ≡ true →
     let o : StepResult = step (decode b) (lent_call (length b) c) in Holds (bytes_after o b) (length b) o.memory

@@ -1,10 +1,10 @@
 -- Each change of the awaiting slots keeps them right, and what it does to their number and their waiters.
+use Rattle.std.specs.Prelude.{None, Option, Some}
 use Prim.Native.Nat.{suc, ◌+◌, ◌≤◌}
 use native.Mathlib.Omega.{arith}
 use mathlib.Core.Path.{◌≡◌, refl}
 use mathlib.Core.Bool.{Bool, true, false, cond}
 use mathlib.Core.List.{List, [], ◌∷◌}
-use mathlib.Core.Option.{Option, some, none}
 use lib.Dec.{ltb}
 use lib.ListN.{length}
 use borrow.Author.Tests.{lt-ltb}
@@ -222,8 +222,8 @@ woken_members (m ∷ ms) q = one m.outcome (woken_members ms q)
   where
     one : (o : Option Value) → woken (valued_slots ms) q + woken (refused_slots ms) q ≡ woken (member_slots ms) q
         → woken (if_valued o m.slot (valued_slots ms)) q + woken (if_refused o m.slot (refused_slots ms)) q ≡ waiters_of m.slot q + woken (member_slots ms) q
-    one none h = omega arith
-    one (some v) h = omega arith
+    one None h = omega arith
+    one (Some v) h = omega arith
 
 pub length_refused : (ms : List Member) → length (refused_slots ms) ≤ length (member_slots ms)
 unfolding refused_slots member_slots
@@ -231,5 +231,5 @@ length_refused [] = omega arith
 length_refused (m ∷ ms) = one m.outcome (length_refused ms)
   where
     one : (o : Option Value) → length (refused_slots ms) ≤ length (member_slots ms) → length (if_refused o m.slot (refused_slots ms)) ≤ suc (length (member_slots ms))
-    one none h = omega arith
-    one (some v) h = omega arith
+    one None h = omega arith
+    one (Some v) h = omega arith

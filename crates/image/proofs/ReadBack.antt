@@ -1,17 +1,15 @@
 -- The image of a well-formed store reads back as that store, and bytes that are a store begin with its image.
+use Rattle.std.specs.Prelude.{None, Option, Some}
 use Prim.Native.Nat.{ℕ, suc, pred, ◌*◌, ◌^◌, ◌≤◌, ◌<◌}
 use mathlib.Core.Path.{◌≡◌, refl, sym, ap, ap₂, subst, ◌∙◌}
 use mathlib.Core.Bool.{Bool, true, false, ◌&&◌, cond}
 use mathlib.Core.List.{List, [], ◌∷◌, ◌++◌, map, append_assoc}
-use mathlib.Core.Option.{Option, some, none}
 use native.Mathlib.Omega.{arith}
 use lib.Dec.{leb}
 use lib.ListN.{length, take, drop, length-append}
 use lib.Seq.{take_at, drop_at, drop-drop}
 use borrow.Author.Tests.{leb-true, le-leb}
 use Rattle.layout.specs.Layout.{awaiting_table, awaiting_width, ends_limit, record_width, table_width}
-use Rattle.model.specs.declared.storage_memo.BlockHash.{BlockHash}
-use Rattle.model.specs.declared.storage_memo.BlockHash.TheVariants.{Unknown, Known}
 use Rattle.model.specs.declared.storage_memo.ReadAnchor.{ReadAnchor}
 use Rattle.model.specs.declared.delta_snapshot.Retention.{Retention}
 use Rattle.model.specs.declared.delta_snapshot.Retention.TheVariants.{Unbounded, IdleBlocks}
@@ -30,6 +28,7 @@ use Rattle.image.proofs.Words.{length_padded, length_bytes_of, length_words_of, 
 use Rattle.image.proofs.Entries.{read_records, length_flat, length_ends, cut_back, read_pendings}
 use Rattle.image.proofs.Facts.{ConfigFacts, GenerationFacts, generation_facts, StoreFacts, store_facts}
 use Rattle.image.proofs.Extent.{Room, room, length_image_words, fit_image_words}
+use Rattle.model.specs.declared.storage_memo.U256.{U256}
 
 -- The tables ------------------------------------------------------------------------------------------
 
@@ -54,15 +53,15 @@ abbrev assembled : ReadAnchor → List ℕ → List Record → List Pending → 
 assembled a es rs q t = record { anchor = a; base = (cut 0 es rs []).base; top = (cut 0 es rs []).top; pending = q; totals = t }
 
 -- The header of a generation is read as it is, after any five words and before any tables.
-read_header : (v w x y z n : ℕ) (h : BlockHash) (b : List Layer) (top : Layer) (q : List Pending) (s : ReadTotals) (t : List ℕ) →
+read_header : (v w x y z n : ℕ) (h : Option U256) (b : List Layer) (top : Layer) (q : List Pending) (s : ReadTotals) (t : List ℕ) →
     let a : ReadAnchor = record { number = n; hash = h } in
     read_generation (v ∷ w ∷ x ∷ y ∷ z ∷ (generation_words (record { anchor = a; base = b; top = top; pending = q; totals = s }) ++ t))
     ≡ assembled a (take (suc (pred (length b))) t) (map read_record (entries record_width (record_count (top ∷ b)) (drop table_width t))) (map read_pending (entries awaiting_width (length q) (drop ends_limit t))) s
 unfolding read_generation
-read_header v w x y z n Unknown b top q s t = refl
-read_header v w x y z n (Known h) b top q s t = refl
+read_header v w x y z n None b top q s t = refl
+read_header v w x y z n (Some h) b top q s t = refl
 
-read_installed : (cfg : Config) (g : Generation) (v w x y z : ℕ) → ConfigFacts cfg → GenerationFacts cfg g → read_generation (v ∷ w ∷ x ∷ y ∷ z ∷ installed_words cfg.capacity (some g)) ≡ g
+read_installed : (cfg : Config) (g : Generation) (v w x y z : ℕ) → ConfigFacts cfg → GenerationFacts cfg g → read_generation (v ∷ w ∷ x ∷ y ∷ z ∷ installed_words cfg.capacity (Some g)) ≡ g
 unfolding flat_records
 read_installed cfg g v w x y z c f =
     let e : List ℕ = layer_ends g.base in
@@ -88,12 +87,12 @@ read_parts : (n d : ℕ) (R : Retention) (i : Option Generation) →
     let cfg : Config = record { capacity = n; max_depth = d; retention = R } in
     ConfigFacts cfg → installed_ok cfg i ≡ true → read_store (config_words cfg ++ installed_words n i) ≡ record { config = cfg; installed = i }
 unfolding read_store
-read_parts n d Unbounded none c e = refl
-read_parts n d (IdleBlocks k) none c e = refl
-read_parts n d Unbounded (some g) c e =
-    ap (λ (x : Generation). record { config = record { capacity = n; max_depth = d; retention = Unbounded }; installed = some x }) (read_installed _ g _ _ _ _ _ c (generation_facts _ g e))
-read_parts n d (IdleBlocks k) (some g) c e =
-    ap (λ (x : Generation). record { config = record { capacity = n; max_depth = d; retention = IdleBlocks k }; installed = some x }) (read_installed _ g _ _ _ _ _ c (generation_facts _ g e))
+read_parts n d Unbounded None c e = refl
+read_parts n d (IdleBlocks k) None c e = refl
+read_parts n d Unbounded (Some g) c e =
+    ap (λ (x : Generation). record { config = record { capacity = n; max_depth = d; retention = Unbounded }; installed = Some x }) (read_installed _ g _ _ _ _ _ c (generation_facts _ g e))
+read_parts n d (IdleBlocks k) (Some g) c e =
+    ap (λ (x : Generation). record { config = record { capacity = n; max_depth = d; retention = IdleBlocks k }; installed = Some x }) (read_installed _ g _ _ _ _ _ c (generation_facts _ g e))
 
 read_image_words : (st : Store) → well_formed st ≡ true → read_store (image_words st) ≡ st
 unfolding image_words
@@ -114,9 +113,9 @@ abbrev is_store : ℕ → List ℕ → List ℕ → Store → Bool
 is_store n b ws st = leb (8 * n) (length b) && (well_formed st && words_eqb ws (image_words st))
 
 abbrev decided : ℕ → List ℕ → List ℕ → Store → Memory
-decided n b ws st = cond (is_store n b ws st) (some st) none
+decided n b ws st = cond (is_store n b ws st) (Some st) None
 
-decode_begins : (b : List ℕ) (st : Store) → num (take 8 (drop 8 b)) ≡ st.config.capacity → Begins b st → decode b ≡ some st
+decode_begins : (b : List ℕ) (st : Store) → num (take 8 (drop 8 b)) ≡ st.config.capacity → Begins b st → decode b ≡ Some st
 unfolding decode
 decode_begins b st k h =
     let n : ℕ = store_words st.config.capacity in
@@ -124,13 +123,13 @@ decode_begins b st k h =
     ap (λ (c : ℕ). let l : List ℕ = words_of (store_words c) b in decided (store_words c) b l (read_store l)) k
     ∙ ap (λ (l : List ℕ). decided n b l (read_store l)) h.words
     ∙ ap (decided n b ws) (read_image_words st h.right)
-    ∙ ap (λ (t : Bool). cond t (some st) none) (and_intro _ _ (le-leb (8 * n) (length b) h.long) (and_intro _ _ h.right (words_eqb_refl ws)))
+    ∙ ap (λ (t : Bool). cond t (Some st) None) (and_intro _ _ (le-leb (8 * n) (length b) h.long) (and_intro _ _ h.right (words_eqb_refl ws)))
 
-pub decided_some : (t : Bool) (x st : Store) → cond t (some x) none ≡ some st → (t ≡ true) × (x ≡ st)
+pub decided_some : (t : Bool) (x st : Store) → cond t (Some x) None ≡ Some st → (t ≡ true) × (x ≡ st)
 decided_some true x st e = (refl, cc)
 decided_some false x st e = let z : ◌≡◌ {A = ℕ} 0 1 = cc in absurd (omega arith)
 
-pub decode_some : (b : List ℕ) (st : Store) → decode b ≡ some st → Begins b st
+pub decode_some : (b : List ℕ) (st : Store) → decode b ≡ Some st → Begins b st
 unfolding decode
 decode_some b st e =
     let n : ℕ = store_words (num (take 8 (drop 8 b))) in
@@ -160,7 +159,7 @@ capacity_word st rest e =
     let h : st.config.capacity < 2 ^ 64 = omega arith in
     second_word _ st.config.capacity _ rest h
 
-pub decode_image : (st : Store) (rest : List ℕ) → well_formed st ≡ true → decode (image st ++ rest) ≡ some st
+pub decode_image : (st : Store) (rest : List ℕ) → well_formed st ≡ true → decode (image st ++ rest) ≡ Some st
 unfolding image
 decode_image st rest e =
     let n : length (image_words st) ≡ store_words st.config.capacity = length_image_words st e in

@@ -1,9 +1,10 @@
 -- Each change of a generation's records keeps them right.
+use Rattle.std.specs.Prelude.{None, Option, Some}
+use Rattle.std.proofs.lemmas.Option.{none-some, same_Some}
 use Prim.Native.Nat.{ℕ, zero, suc}
 use mathlib.Core.Path.{◌≡◌, refl, ap, ◌∙◌}
 use mathlib.Core.Bool.{Bool, true, false, ◌&&◌, cond}
 use mathlib.Core.List.{List, [], ◌∷◌}
-use mathlib.Core.Option.{Option, some, none, none-ne-some, some-injective}
 use lib.ListN.{drop}
 use borrow.Author.Tests.{le-leb}
 use Rattle.model.specs.declared.storage_memo.Address.{Address}
@@ -80,13 +81,13 @@ every_and p q (r ∷ l) d e =
     let y : Bool = q r.slot r.content in
     rw (and_left x _ d, and_left y _ e) (every_and p q l (and_right x _ d) (and_right y _ e))
 
-find_every : {A : Type 0} (p : Slot → A → Bool) (s : Slot) (l : LayerOf A) (c : A) → every p l ≡ true → find s l ≡ some c → p s c ≡ true
+find_every : {A : Type 0} (p : Slot → A → Bool) (s : Slot) (l : LayerOf A) (c : A) → every p l ≡ true → find s l ≡ Some c → p s c ≡ true
 unfolding every find
-find_every p s [] c e f = absurd (none-ne-some c f)
+find_every p s [] c e f = absurd (none-some c f)
 find_every p s (r ∷ l) c e f =
     let x : Bool = p r.slot r.content in
     split (slot_eqb r.slot s)
-    (λ y. let q : r.content ≡ c = some-injective r.content c (rw y at f) in
+    (λ y. let q : r.content ≡ c = same_Some r.content c (rw y at f) in
     rw (slot_eqb_true r.slot s y, q) at (and_left x _ e))
     (λ y. find_every p s l c (and_right x _ e) (rw y at f))
 
@@ -113,7 +114,7 @@ unfolding chain_ok
 chain_ok_layer n l ls k = rw (k.sorted, k.contents_ok, k.records_fit, k.below_ok)
 
 -- A slot's last use does not fall from a layer to the next above: the highest record has the freshest use.
-pub highest_is_freshest : (n : ℕ) (l : Layer) (ls : List Layer) (s : Slot) (c : Content) → chain_ok n (l ∷ ls) ≡ true → find s l ≡ some c → freshest_use s (l ∷ ls) ≡ some (use_of c)
+pub highest_is_freshest : (n : ℕ) (l : Layer) (ls : List Layer) (s : Slot) (c : Content) → chain_ok n (l ∷ ls) ≡ true → find s l ≡ Some c → freshest_use s (l ∷ ls) ≡ Some (use_of c)
 unfolding freshest_use
 highest_is_freshest n l ls s c e q =
     ap (λ (t : Option Content). max_option (last_use_of t) (freshest_use s ls)) q
@@ -171,7 +172,7 @@ module _ {R : Retention} {n : ℕ} {b : List Layer} (l : Layer) (t : TopOk R n b
     pub top_ok_settle : (v : Value) → u256_fits v ≡ true → TopOk R n b (insert s (valued n v) l)
     top_ok_settle v f = top_ok_valued n v f (content_ok_settle v base_use_with_value)
 
-    pub top_ok_touch : (x : Value) → resolved_through_policy R n (freshest_use s (l ∷ b)) (held_value s (l ∷ b)) ≡ some x → TopOk R n b (insert s (touch n (find s l)) l)
+    pub top_ok_touch : (x : Value) → resolved_through_policy R n (freshest_use s (l ∷ b)) (held_value s (l ∷ b)) ≡ Some x → TopOk R n b (insert s (touch n (find s l)) l)
     unfolding freshest_use held_value
     top_ok_touch x e =
         let z = content_ok_touch R x (find s l) base_use_with_value (found_ok s) (λ c. find_every (serves_over R n b) s l c t.uses_served) e in
@@ -185,12 +186,12 @@ module _ {R : Retention} {n : ℕ} {b : List Layer} (l : Layer) (t : TopOk R n b
         unserved_write false = t
 
         over_base : (o : Option LastUse) → freshest_use s b ≡ o → TopOk R n b (apply_write n (write_kind R n j o) s x l)
-        over_base none e = unserved_write j
-        over_base (some u) e = split (serves R u n) (λ y. rw y (top_ok_valued u x fx (content_ok_overwrite u x base_use_with_value e))) (λ y. rw y (unserved_write j))
+        over_base None e = unserved_write j
+        over_base (Some u) e = split (serves R u n) (λ y. rw y (top_ok_valued u x fx (content_ok_overwrite u x base_use_with_value e))) (λ y. rw y (unserved_write j))
 
         go : (o : Option LastUse) → valued_use (find s l) ≡ o → TopOk R n b (apply_write n (final_write_kind R n j o (freshest_use s b)) s x l)
-        go none e = over_base (freshest_use s b) refl
-        go (some u) e = top_ok_valued u x fx (content_ok_again n (held_value s b) (freshest_use s b) (find s l) u x e (found_ok s))
+        go None e = over_base (freshest_use s b) refl
+        go (Some u) e = top_ok_valued u x fx (content_ok_again n (held_value s b) (freshest_use s b) (find s l) u x e (found_ok s))
 
 pub top_ok_seed_final_writes : (R : Retention) (n : ℕ) (relevance : List Address) (b : List Layer) (ws : List Write) (l : Layer) → fits_64 n ≡ true → writes_fit ws ≡ true → TopOk R n b l → TopOk R n b (seed_final_writes R n relevance b ws l).top
 unfolding seed_final_writes writes_fit
@@ -210,8 +211,8 @@ top_ok_settle_members R n b (m ∷ ms) l e f t =
     top_ok_settle_members R n b ms _ e (and_right y _ (and_right x _ f)) (one m.outcome (and_left x _ f) (and_left y _ (and_right x _ f)))
   where
     one : (r : Option Value) → slot_fits m.slot ≡ true → value_fits r ≡ true → TopOk R n b (settle_outcome n m.slot r l)
-    one none a d = t
-    one (some v) a d = top_ok_settle l t e m.slot a v d
+    one None a d = t
+    one (Some v) a d = top_ok_settle l t e m.slot a v d
 
 -- Fold and seal -------------------------------------------------------------------------------------
 

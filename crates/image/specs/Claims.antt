@@ -1,6 +1,5 @@
 -- What is claimed of well-formed stores and of their image.
-use Rattle.std.specs.Prelude.{ℕ, ◌≡◌, Bool, true, ◌&&◌, List, [], ◌∷◌, ◌++◌, map, length, take}
-use Rattle.std.proofs.Math.Option.{some, none}
+use Rattle.std.specs.Prelude.{ℕ, ◌≡◌, Bool, true, ◌&&◌, List, [], ◌∷◌, ◌++◌, map, length, take, None, Some}
 use Rattle.model.specs.Numbers.{Bytes}
 use Rattle.model.specs.Advance.{Write}
 use Rattle.model.specs.Reads.{Member}
@@ -40,8 +39,8 @@ call_fits (on_store c) = store_call_fits c
 
 -- The lent bytes are no store, or a well-formed one.
 abbrev pub memory_ok : Memory → Bool
-memory_ok none = true
-memory_ok (some st) = well_formed st
+memory_ok None = true
+memory_ok (Some st) = well_formed st
 
 -- From any well-formed state, reached or not, every call leaves a well-formed one.
 abbrev pub Closure : Type 0
@@ -50,8 +49,8 @@ Closure = (m : Memory) (c : LentCall) → memory_ok m ≡ true → call_fits c.c
 -- The image of a well-formed state has the size of its capacity and reads back as that state, whatever follows it; and bytes that are a store begin with the image of a well-formed state, which they read as.
 pub record ImageReadsBack : Type 0 where
   pub size : (st : Store) → well_formed st ≡ true → length (image st) ≡ store_size st.config.capacity
-  pub reads_back : (st : Store) (rest : List ℕ) → well_formed st ≡ true → decode (image st ++ rest) ≡ some st
-  pub is_image : (b : List ℕ) (st : Store) → Bytes b → decode b ≡ some st → (well_formed st ≡ true) × (take (length (image st)) b ≡ image st)
+  pub reads_back : (st : Store) (rest : List ℕ) → well_formed st ≡ true → decode (image st ++ rest) ≡ Some st
+  pub is_image : (b : List ℕ) (st : Store) → Bytes b → decode b ≡ Some st → (well_formed st ≡ true) × (take (length (image st)) b ≡ image st)
 
 -- A list of calls whose arguments fit.
 unfoldable pub calls_fit : List BytesCall → Bool

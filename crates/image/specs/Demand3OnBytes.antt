@@ -1,6 +1,5 @@
 -- Demand 3 on lent bytes: a freshly opened store of any capacity, depth and retention, each call finding the bytes as the last one left them.
-use Rattle.std.specs.Prelude.{ℕ, ◌≡◌, Bool, true, List, map}
-use Rattle.std.proofs.Math.Option.{Option, some, none}
+use Rattle.std.specs.Prelude.{ℕ, ◌≡◌, Bool, true, List, map, None, Option, Some}
 use Rattle.model.specs.declared.delta_snapshot.Slot.{Slot}
 use Rattle.model.specs.Store.{Config, Store, Call}
 use Rattle.model.specs.Refusals.{refused}
@@ -11,10 +10,10 @@ use Rattle.image.specs.Claims.{calls_fit}
 
 -- A store as an open leaves it, and the ledger of that open.
 abbrev pub fresh_store : Config → Store
-fresh_store cfg = record { config = cfg; installed = none }
+fresh_store cfg = record { config = cfg; installed = None }
 
 abbrev pub fresh_ledger : Config → Option Ledger
-fresh_ledger cfg = some (record { retention = cfg.retention; installed = none })
+fresh_ledger cfg = Some (record { retention = cfg.retention; installed = None })
 
 -- The calls of a list without what is lent, and which of them were turned down.
 abbrev pub bytes_calls : List BytesCall → List Call
@@ -33,4 +32,4 @@ pub record Demand3OnBytes (cfg : Config) (b : List ℕ) (cs : List BytesCall) : 
 
 -- Over any bytes that are a freshly opened store, and any list of calls whose arguments fit the code's types.
 abbrev pub DemandOnBytes : Type 0
-DemandOnBytes = (cfg : Config) (b : List ℕ) (cs : List BytesCall) → decode b ≡ some (fresh_store cfg) → calls_fit cs ≡ true → Demand3OnBytes cfg b cs
+DemandOnBytes = (cfg : Config) (b : List ℕ) (cs : List BytesCall) → decode b ≡ Some (fresh_store cfg) → calls_fit cs ≡ true → Demand3OnBytes cfg b cs

@@ -1,11 +1,8 @@
 -- The image of a store in bytes (docs/LAYOUT.md), and which bytes are a store.
-use Rattle.std.specs.Prelude.{ℕ, zero, suc, pred, ◌-◌, ◌*◌, Bool, true, false, not, ◌&&◌, cond, List, [], ◌∷◌, ◌++◌, map, eqb, leb, length, take, drop, get_or, replicate}
-use Rattle.std.proofs.Math.Option.{Option, some, none}
+use Rattle.std.specs.Prelude.{ℕ, zero, suc, pred, ◌-◌, ◌*◌, Bool, true, false, not, ◌&&◌, cond, List, [], ◌∷◌, ◌++◌, map, eqb, leb, length, take, drop, get_or, replicate, None, Option, Some}
 use Rattle.layout.specs.Layout.{awaiting_count_index, awaiting_index, awaiting_table, awaiting_width, capacity_index, capacity_offset, depth_index, ends_index, ends_limit, generation_width, hash_index, installed_index, magic, max_depth_index, number_index, record_width, records_count_index, records_index, retention_index, slot_width, taken_index, totals_index, waiters_index}
 use Rattle.model.specs.declared.delta_snapshot.Slot.{Slot}
-use Rattle.model.specs.declared.storage_memo.BlockHash.{BlockHash}
 use Rattle.model.specs.declared.delta_snapshot.Retention.{Retention}
-use Rattle.model.specs.declared.storage_memo.BlockHash.TheVariants.{Unknown, Known}
 use Rattle.model.specs.declared.delta_snapshot.Retention.TheVariants.{Unbounded, IdleBlocks}
 use Rattle.model.specs.Slots.{slot_words, u256_words, read_u256, words_eqb}
 use Rattle.model.specs.declared.delta_snapshot.Content.{Content}
@@ -18,6 +15,7 @@ use Rattle.model.specs.Numbers.{be, num}
 use Rattle.model.specs.Refusals.{LentCall, StepResult, Answer, refused, step, store_words}
 use Rattle.words.specs.Parts.{part}
 use Rattle.image.specs.WellFormed.{well_formed}
+use Rattle.model.specs.declared.storage_memo.U256.{U256}
 
 -- Words in bytes --------------------------------------------------------------------------------------
 
@@ -40,9 +38,9 @@ abbrev pub retention_words : Retention → List ℕ
 retention_words Unbounded = 0 ∷ 0 ∷ []
 retention_words (IdleBlocks n) = 1 ∷ n ∷ []
 
-abbrev pub hash_words : BlockHash → List ℕ
-hash_words Unknown = 0 ∷ 0 ∷ 0 ∷ 0 ∷ 0 ∷ []
-hash_words (Known h) = 1 ∷ u256_words h
+abbrev pub hash_words : Option U256 → List ℕ
+hash_words None = 0 ∷ 0 ∷ 0 ∷ 0 ∷ 0 ∷ []
+hash_words (Some h) = 1 ∷ u256_words h
 
 abbrev pub totals_words : ReadTotals → List ℕ
 totals_words t = t.accepted ∷ t.served ∷ t.waiting ∷ t.valued ∷ t.refused ∷ t.rounds ∷ t.members ∷ t.errors ∷ t.coalesced ∷ []
@@ -92,8 +90,8 @@ table_words capacity ends awaiting records = padded ends_limit ends ++ (padded a
 
 -- With nothing installed all these words are 0: that a store then holds nothing is enforced here.
 abbrev pub installed_words : ℕ → Option Generation → List ℕ
-installed_words capacity none = replicate generation_width 0 ++ table_words capacity [] [] []
-installed_words capacity (some g) =
+installed_words capacity None = replicate generation_width 0 ++ table_words capacity [] [] []
+installed_words capacity (Some g) =
     generation_words g
     ++ table_words capacity (layer_ends g.base) (all_pending_words g.pending) (all_record_words (flat_records (chain g)))
 
@@ -135,8 +133,8 @@ cut from (e ∷ es) rs b = cut e es (drop (e - from) rs) (take (e - from) rs ∷
 abbrev pub read_retention : List ℕ → Retention
 read_retention l = cond (eqb (get_or l 0 0) 0) Unbounded (IdleBlocks (get_or l 1 0))
 
-abbrev pub read_hash : List ℕ → BlockHash
-read_hash l = cond (eqb (get_or l 0 0) 0) Unknown (Known (read_u256 (drop 1 l)))
+abbrev pub read_hash : List ℕ → Option U256
+read_hash l = cond (eqb (get_or l 0 0) 0) None (Some (read_u256 (drop 1 l)))
 
 abbrev pub read_totals : List ℕ → ReadTotals
 read_totals l =
@@ -168,7 +166,7 @@ unfoldable pub read_store : List ℕ → Store
 read_store l =
     record {
       config = record { capacity = get_or l capacity_index 0; max_depth = get_or l max_depth_index 0; retention = read_retention (drop retention_index l) };
-      installed = cond (eqb (get_or l installed_index 0) 0) none (some (read_generation l));
+      installed = cond (eqb (get_or l installed_index 0) 0) None (Some (read_generation l));
     }
 
 -- The lent bytes as a store: they begin with the image of the well-formed state that they read as, or they are not a store. Bytes past the image are no part of it.
@@ -177,14 +175,14 @@ decode b =
     let n : ℕ = store_words (num (take 8 (drop capacity_offset b))) in
     let ws : List ℕ = words_of n b in
     let st : Store = read_store ws in
-    cond (leb (8 * n) (length b) && (well_formed st && words_eqb ws (image_words st))) (some st) none
+    cond (leb (8 * n) (length b) && (well_formed st && words_eqb ws (image_words st))) (Some st) None
 
 -- Calls on bytes ----------------------------------------------------------------------------------------
 
 -- The lent bytes after an accepted call: the new image, and past it the bytes as they were.
 abbrev pub overlay : Memory → List ℕ → List ℕ
-overlay none b = b
-overlay (some st) b = image st ++ drop (length (image st)) b
+overlay None b = b
+overlay (Some st) b = image st ++ drop (length (image st)) b
 
 abbrev pub bytes_after : StepResult → List ℕ → List ℕ
 bytes_after o b = cond (refused o.answer) b (overlay o.memory b)

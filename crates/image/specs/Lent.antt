@@ -1,6 +1,5 @@
 -- The store and the generation that lent bytes hold, as functions of the bytes, and a base's layers by number: what contracts over a store's bytes speak of.
-use Rattle.std.specs.Prelude.{◌≡◌, List, [], ℕ, suc, ◌-◌, length, take, drop, get_or}
-use Rattle.std.proofs.Math.Option.{some}
+use Rattle.std.specs.Prelude.{◌≡◌, List, [], ℕ, suc, ◌-◌, length, take, drop, get_or, Some}
 use Rattle.model.specs.Numbers.{num}
 use Rattle.model.specs.Layers.{LayerOf}
 use Rattle.model.specs.Store.{Generation, Store}
@@ -20,12 +19,12 @@ generation_of b = read_generation (words_in b)
 
 -- The bytes are a store.
 abbrev pub IsStore : List ℕ → Type 0
-IsStore b = decode b ≡ some (store_of b)
+IsStore b = decode b ≡ Some (store_of b)
 
 -- The bytes are a store with a generation installed.
 pub record Installed (b : List ℕ) : Type 0 where
   pub is_store : IsStore b
-  pub installs : (store_of b).installed ≡ some (generation_of b)
+  pub installs : (store_of b).installed ≡ Some (generation_of b)
 
 -- The layer of number k of some layers (the newest first).
 abbrev pub layer_of : {A : Type 0} → ℕ → List (LayerOf A) → LayerOf A

@@ -1,12 +1,9 @@
 -- When a store is well formed: document 01's rule, a definition for each of its parts.
-use Rattle.std.specs.Prelude.{ℕ, suc, ◌+◌, ◌^◌, Bool, true, ◌&&◌, List, [], ◌∷◌, eqb, leb, ltb, length}
-use Rattle.std.proofs.Math.Option.{Option, some, none}
+use Rattle.std.specs.Prelude.{ℕ, suc, ◌+◌, ◌^◌, Bool, true, ◌&&◌, List, [], ◌∷◌, eqb, leb, ltb, length, None, Option, Some}
 use Rattle.model.specs.declared.storage_memo.Address.{Address}
 use Rattle.model.specs.declared.delta_snapshot.Slot.{Slot}
-use Rattle.model.specs.declared.storage_memo.BlockHash.{BlockHash}
 use Rattle.model.specs.declared.storage_memo.ReadAnchor.{ReadAnchor}
 use Rattle.model.specs.declared.delta_snapshot.Retention.{Retention}
-use Rattle.model.specs.declared.storage_memo.BlockHash.TheVariants.{Unknown, Known}
 use Rattle.model.specs.declared.delta_snapshot.Retention.TheVariants.{Unbounded, IdleBlocks}
 use Rattle.model.specs.Slots.{slot_ltb, fits_64, u256_fits}
 use Rattle.model.specs.Contents.{content_fits, content_ok, top_content_ok}
@@ -14,6 +11,7 @@ use Rattle.model.specs.Layers.{LayerOf, Layer, held_value, freshest_use, record_
 use Rattle.model.specs.declared.read_hub.ReadTotals.{ReadTotals}
 use Rattle.model.specs.Reads.{Pending}
 use Rattle.model.specs.Store.{Config, Generation, Store, chain}
+use Rattle.model.specs.declared.storage_memo.U256.{U256}
 
 -- Numbers fit the fields of the code's types ----------------------------------------------------------
 
@@ -23,9 +21,9 @@ address_fits a = ltb a.w0 (2 ^ 32) && (fits_64 a.w1 && fits_64 a.w2)
 unfoldable pub slot_fits : Slot → Bool
 slot_fits s = address_fits s.address && u256_fits s.index
 
-abbrev pub hash_fits : BlockHash → Bool
-hash_fits Unknown = true
-hash_fits (Known h) = u256_fits h
+abbrev pub hash_fits : Option U256 → Bool
+hash_fits None = true
+hash_fits (Some h) = u256_fits h
 
 unfoldable pub anchor_fits : ReadAnchor → Bool
 anchor_fits a = fits_64 a.number && hash_fits a.hash
@@ -107,8 +105,8 @@ generation_ok cfg g =
 
 -- With nothing installed a store holds nothing: there is no generation to hold records, and `installed_words` (Image) has every word of it 0.
 abbrev pub installed_ok : Config → Option Generation → Bool
-installed_ok cfg none = true
-installed_ok cfg (some g) = generation_ok cfg g
+installed_ok cfg None = true
+installed_ok cfg (Some g) = generation_ok cfg g
 
 unfoldable pub well_formed : Store → Bool
 well_formed st = config_ok st.config && installed_ok st.config st.installed

@@ -1,12 +1,11 @@
 -- The header of a store in lent bytes, as the functions read it.
 use Prim.Native.Nat.{ℕ, zero, suc, ◌+◌, ◌-◌, ◌*◌, ◌≤◌}
 use mathlib.Core.Path.{◌≡◌, refl, sym, ap, ap₂, ◌∙◌}
-use mathlib.Core.Bool.{false, cond}
+use mathlib.Core.Bool.{cond}
 use mathlib.Core.List.{List}
 use native.Mathlib.Omega.{arith}
 use lib.Dec.{eqb}
 use lib.ListN.{length}
-use borrow.Author.Tests.{ne_eqb}
 use Rattle.layout.specs.Layout.{depth_offset, ends_limit, ends_offset, idle_offset, records_count_offset, records_offset, retention_offset}
 use Rattle.model.specs.declared.delta_snapshot.Retention.TheVariants.{Unbounded, IdleBlocks}
 use Rattle.model.specs.Layers.{Layer, record_count}
@@ -20,18 +19,10 @@ pub header_room : (b : List ℕ) → IsStore b → records_offset ≤ length b
 header_room b e = omega (arith, (store_in b e).long)
 
 -- The retention by words 3 and 4.
-retention_is : (b : List ℕ) → IsStore b → cond (eqb (word retention_offset b) 0) Unbounded (IdleBlocks (word idle_offset b)) ≡ (store_of b).config.retention
+pub retention_is : (b : List ℕ) → IsStore b → cond (eqb (word retention_offset b) 0) Unbounded (IdleBlocks (word idle_offset b)) ≡ (store_of b).config.retention
 retention_is b e =
     let h : StoreBytes b (store_of b) = store_in b e in
     ap₂ (λ (x y : ℕ). cond (eqb x 0) Unbounded (IdleBlocks y)) h.retention_word h.idle_word ∙ retention_read (store_of b).config.retention
-
-pub retention_unbounded : (b : List ℕ) (x : ℕ) → IsStore b → x ≡ word retention_offset b → x ≡ 0 → Unbounded ≡ (store_of b).config.retention
-retention_unbounded b x e p q = sym (ap (λ (t : ℕ). cond (eqb t 0) Unbounded (IdleBlocks (word idle_offset b))) (sym p ∙ q)) ∙ retention_is b e
-
-pub retention_idle : (b : List ℕ) (x y : ℕ) → IsStore b → x ≡ word retention_offset b → (x ≡ 0 → ⊥) → y ≡ word idle_offset b → IdleBlocks y ≡ (store_of b).config.retention
-retention_idle b x y e p q r =
-    let f : eqb (word retention_offset b) 0 ≡ false = ne_eqb (word retention_offset b) 0 (λ z. q (p ∙ z)) in
-    ap IdleBlocks r ∙ sym (rw f) ∙ retention_is b e
 
 -- The number of layers by word 12.
 pub layers_limit : (b : List ℕ) → Installed b → length (generation_of b).base ≤ ends_limit

@@ -1,20 +1,17 @@
 -- Laws of a search of the layers: records by their number, a layer's part, the layers passed on the way down, the top over the base, what a look answers.
+use Rattle.std.specs.Prelude.{None, Option, Some, is_some, Err, Ok}
 use Prim.Native.Nat.{ℕ, suc, ◌+◌, ◌-◌, ◌*◌, ◌≤◌, ◌<◌}
 use mathlib.Core.Path.{◌≡◌, refl, sym, ap, ap₂, subst, ◌∙◌}
 use mathlib.Core.Bool.{Bool, true, false, cond}
 use mathlib.Core.List.{List, [], ◌∷◌}
-use mathlib.Core.Option.{Option, some, none}
 use native.Mathlib.Omega.{arith}
 use lib.ListN.{length, take, drop, length-drop}
 use lib.Seq.{take_all, drop-drop}
 use Rattle.layout.specs.Layout.{record_size, record_width, records_offset}
-use Rattle.model.specs.declared.storage_memo.U256.{U256}
 use Rattle.model.specs.declared.delta_snapshot.Slot.{Slot}
 use Rattle.model.specs.Slots.{Value, LastUse, serves}
-use Rattle.model.specs.declared.delta_snapshot.Held.{Held}
-use Rattle.model.specs.declared.delta_snapshot.Held.TheVariants.{Nothing, Value as HeldValue}
 use Rattle.model.specs.declared.delta_snapshot.Content.{Content}
-use Rattle.model.specs.Contents.{is_some, held_option, own_value, use_of, has_value, valued_use, last_use_of, value_of, or_else, max_option}
+use Rattle.model.specs.Contents.{own_value, use_of, has_value, valued_use, last_use_of, value_of, or_else, max_option}
 use Rattle.model.specs.Layers.{Record, Layer, find, held_value, freshest_use, resolved_through_policy, record_count}
 use Rattle.model.specs.Store.{Generation, chain, resolved}
 use Rattle.model.specs.declared.delta_snapshot.Retention.{Retention}
@@ -26,13 +23,11 @@ use Rattle.image.specs.Lent.{generation_of, Installed, layer_of}
 use Rattle.image.proofs.Areas.{Area, below_none, below_all, below_suc}
 use Rattle.image.proofs.Lent.{generation_in}
 use Rattle.image.proofs.RecordsOk.{layer_ok, highest_is_freshest, chain_ok_drop}
-use Rattle.records.specs.declared.Found.{Found}
-use Rattle.records.specs.declared.Found.TheVariants.{At as FoundAt, Absent as FoundAbsent}
+use Rattle.records.specs.Records.{Found}
 use Rattle.records.specs.Records.{place_from, place_in, place_number, words_at, record_at}
 use Rattle.records.proofs.Places.{found_lt, found_content, absent_none}
 use Rattle.records.proofs.RecordsAt.{record_words_at}
 use Rattle.layers.specs.declared.Row.{Row}
-use Rattle.layers.specs.declared.Row.TheVariants.{None as NoRow, At as RowAt}
 use Rattle.layers.specs.Answers.{row_content, First, HighestIn, ValueIn, ValueAt}
 
 -- Records in bytes ------------------------------------------------------------------------------------
@@ -66,13 +61,13 @@ module _ (b : List ℕ) (from : ℕ) (l : Layer) (area : Area b from l) (x n : �
   area_finds t k e = e ∙ ap (λ (y : Layer). place_number (place_in t y)) area_reads
 
 -- A layer without records.
-pub empty_place : (l : Layer) (t : Slot) → length l ≡ 0 → FoundAbsent 0 ≡ place_in t l
+pub empty_place : (l : Layer) (t : Slot) → length l ≡ 0 → Err 0 ≡ place_in t l
 unfolding place_from
 empty_place [] t e = refl
 empty_place (r ∷ l) t e = absurd (omega arith)
 
 -- A slot's record, found in a layer at place i over the layers ls: its number among all records, its use and its value.
-module _ (b : List ℕ) (from : ℕ) (l : Layer) (area : Area b from l) (t : Slot) (i : ℕ) (q : place_in t l ≡ FoundAt i) where
+module _ (b : List ℕ) (from : ℕ) (l : Layer) (area : Area b from l) (t : Slot) (i : ℕ) (q : place_in t l ≡ Ok i) where
   pub row_room : records_offset + record_size * (from + i + 1) ≤ length b
   row_room = omega (arith, area.room, found_lt l t i q)
 
@@ -83,8 +78,8 @@ module _ (b : List ℕ) (from : ℕ) (l : Layer) (area : Area b from l) (t : Slo
       ap (λ (k : Layer). (record_at i k).content) (sym area.reads) ∙ ap (λ (r : Record). r.content) (record_words_at (length l) i (drop a b) (found_lt l t i q))
       ∙ ap (λ (x : List ℕ). (read_record (words_of record_width x)).content) (drop-drop (i * record_size) a b ∙ ap (λ (k : ℕ). drop k b) e ∙ sym (drop-drop ((from + i) * record_size) records_offset b))
 
-  pub row_found : find t l ≡ some (row_content (from + i) b)
-  row_found = found_content l t i q ∙ ap some row_is
+  pub row_found : find t l ≡ Some (row_content (from + i) b)
+  row_found = found_content l t i q ∙ ap Some row_is
 
   pub row_first : (n : ℕ) (ls : List Layer) (k : ℕ) → chain_ok n (l ∷ ls) ≡ true → k ≤ length (generation_of b).base → layers_below k (generation_of b).base ≡ ls → First t (l ∷ ls) k (from + i) b
   unfolding held_value
@@ -138,13 +133,13 @@ pub passed_start : (t : Slot) (k : ℕ) (ls : List Layer) → Passed t k k ls
 passed_start t k ls = record { fresh_same = refl; held_same = refl }
 
 module _ (t : Slot) (j k : ℕ) (ls : List Layer) (p : Passed t j k ls) where
-  pub passed_all : j ≡ 0 → (freshest_use t (layers_below k ls) ≡ none) × (held_value t (layers_below k ls) ≡ none)
+  pub passed_all : j ≡ 0 → (freshest_use t (layers_below k ls) ≡ None) × (held_value t (layers_below k ls) ≡ None)
   unfolding freshest_use held_value
   passed_all z = (sym p.fresh_same ∙ ap (freshest_use t) (below_zero ls j z), sym p.held_same ∙ ap (held_value t) (below_zero ls j z))
 
   -- One layer more.
   module _ (z : 0 < j) (h : j ≤ length ls) where
-    pub passed_next : find t (layer_of (j - 1) ls) ≡ none → Passed t (j - 1) k ls
+    pub passed_next : find t (layer_of (j - 1) ls) ≡ None → Passed t (j - 1) k ls
     unfolding freshest_use held_value
     passed_next e =
         record {
@@ -163,18 +158,18 @@ module _ (t : Slot) (j k : ℕ) (ls : List Layer) (p : Passed t j k ls) where
         }
 
 -- What is found below j is what is found below k.
-pub passed_highest : (r : Row) (t : Slot) (j k : ℕ) (b : List ℕ) → Passed t j k (generation_of b).base → j ≤ k → HighestIn r t j b → HighestIn r t k b
-passed_highest NoRow t j k b p h (e, f) = (sym p.fresh_same ∙ e, sym p.held_same ∙ f)
-passed_highest (RowAt i row) t j k b p h (l, f) = (omega arith, record { room = f.room; few = f.few; use_is = f.use_is ∙ p.fresh_same; value_is = f.value_is ∙ p.held_same })
+pub passed_highest : (r : Option Row) (t : Slot) (j k : ℕ) (b : List ℕ) → Passed t j k (generation_of b).base → j ≤ k → HighestIn r t j b → HighestIn r t k b
+passed_highest None t j k b p h (e, f) = (sym p.fresh_same ∙ e, sym p.held_same ∙ f)
+passed_highest (Some w) t j k b p h (l, f) = (omega arith, record { room = f.room; few = f.few; use_is = f.use_is ∙ p.fresh_same; value_is = f.value_is ∙ p.held_same })
 
 -- Layers without records.
-no_records : (t : Slot) (ls : List Layer) → record_count ls ≡ 0 → (freshest_use t ls ≡ none) × (held_value t ls ≡ none)
+no_records : (t : Slot) (ls : List Layer) → record_count ls ≡ 0 → (freshest_use t ls ≡ None) × (held_value t ls ≡ None)
 unfolding record_count freshest_use held_value find
 no_records t [] e = (refl, refl)
 no_records t ([] ∷ ls) e = let z : record_count ls ≡ 0 = omega arith in no_records t ls z
 no_records t ((r ∷ l) ∷ ls) e = absurd (omega arith)
 
-pub passed_empty : (t : Slot) (j k : ℕ) (ls : List Layer) → Passed t j k ls → record_count (layers_below j ls) ≡ 0 → (freshest_use t (layers_below k ls) ≡ none) × (held_value t (layers_below k ls) ≡ none)
+pub passed_empty : (t : Slot) (j k : ℕ) (ls : List Layer) → Passed t j k ls → record_count (layers_below j ls) ≡ 0 → (freshest_use t (layers_below k ls) ≡ None) × (held_value t (layers_below k ls) ≡ None)
 passed_empty t j k ls p e =
     let n = no_records t (layers_below j ls) e in
     (sym p.fresh_same ∙ n.0, sym p.held_same ∙ n.1)
@@ -185,7 +180,7 @@ base_right b i = let g : Generation = generation_of b in (layer_ok g.anchor.numb
 
 -- The search of layer j - 1, where the layers above up to k have no record: the slot's record, or none either.
 module _ (b : List ℕ) (t : Slot) (j k : ℕ) (s : Installed b) (p : Passed t j k (generation_of b).base) (z : 0 < j) (h : j ≤ length (generation_of b).base) (f : Found) (q : f ≡ place_in t (layer_of (j - 1) (generation_of b).base)) (i : ℕ) where
-  pub first_below : (x : ℕ) → x ≡ record_count (layers_below (j - 1) (generation_of b).base) → f ≡ FoundAt i → First t (layers_below k (generation_of b).base) (j - 1) (x + i) b
+  pub first_below : (x : ℕ) → x ≡ record_count (layers_below (j - 1) (generation_of b).base) → f ≡ Ok i → First t (layers_below k (generation_of b).base) (j - 1) (x + i) b
   first_below x e d =
       let g : Generation = generation_of b in
       let ls : List Layer = g.base in
@@ -195,11 +190,11 @@ module _ (b : List ℕ) (t : Slot) (j k : ℕ) (s : Installed b) (p : Passed t j
       (passed_first t j k ls p z h (record_count (layers_below (j - 1) ls) + i) b
       (row_first b (record_count (layers_below (j - 1) ls)) (layer_of (j - 1) ls) (layer_area b (j - 1) s (omega arith)) t i (sym q ∙ d) g.anchor.number (layers_below (j - 1) ls) (j - 1) ok (omega arith) refl))
 
-  pub none_below : f ≡ FoundAbsent i → Passed t (j - 1) k (generation_of b).base
+  pub none_below : f ≡ Err i → Passed t (j - 1) k (generation_of b).base
   none_below d = passed_next t j k (generation_of b).base p z h (absent_none (layer_of (j - 1) (generation_of b).base) t i (layer_area b (j - 1) s (omega arith)).rises (sym q ∙ d))
 
 -- The record found in the top, and one of the base where the top has none.
-pub first_top : (b : List ℕ) (t : Slot) (n x i : ℕ) (f : Found) → Installed b → n ≡ length (generation_of b).base → x ≡ record_count (generation_of b).base → f ≡ place_in t (generation_of b).top → f ≡ FoundAt i
+pub first_top : (b : List ℕ) (t : Slot) (n x i : ℕ) (f : Found) → Installed b → n ≡ length (generation_of b).base → x ≡ record_count (generation_of b).base → f ≡ place_in t (generation_of b).top → f ≡ Ok i
     → First t (chain (generation_of b)) n (x + i) b
 first_top b t n x i f s m e q d =
     let g : Generation = generation_of b in
@@ -207,29 +202,27 @@ first_top b t n x i f s m e q d =
     (row_first b (record_count g.base) g.top (top_area b s) t i (sym q ∙ d) g.anchor.number g.base n (generation_in b s).facts.chain_right (omega arith) (ap (λ (k : ℕ). layers_below k g.base) m ∙ below_all g.base))
 
 -- The last use of the top's record, if it has a value.
-pub top_unvalued : (b : List ℕ) (t : Slot) (i : ℕ) (f : Found) → Installed b → f ≡ place_in t (generation_of b).top → f ≡ FoundAbsent i → none ≡ valued_use (find t (generation_of b).top)
+pub top_unvalued : (b : List ℕ) (t : Slot) (i : ℕ) (f : Found) → Installed b → f ≡ place_in t (generation_of b).top → f ≡ Err i → None ≡ valued_use (find t (generation_of b).top)
 top_unvalued b t i f s q d = sym (ap valued_use (absent_none (generation_of b).top t i (top_area b s).rises (sym q ∙ d)))
 
-module _ (b : List ℕ) (t : Slot) (x i : ℕ) (f : Found) (s : Installed b) (e : x ≡ record_count (generation_of b).base) (q : f ≡ place_in t (generation_of b).top) (d : f ≡ FoundAt i) where
+module _ (b : List ℕ) (t : Slot) (x i : ℕ) (f : Found) (s : Installed b) (e : x ≡ record_count (generation_of b).base) (q : f ≡ place_in t (generation_of b).top) (d : f ≡ Ok i) where
   pub top_room : records_offset + record_size * (x + i + 1) ≤ length b
   top_room = (first_top b t (length (generation_of b).base) x i f s refl e q d).room
 
-  module _ (own : Held) (p : own ≡ (row_content (x + i) b).held) where
-    top_valued : cond (is_some (held_option own)) (some (use_of (row_content (x + i) b))) none ≡ valued_use (find t (generation_of b).top)
-    top_valued =
-        ap (λ (h : Held). cond (is_some (held_option h)) (some (use_of (row_content (x + i) b))) none) p
-        ∙ ap (λ (y : ℕ). valued_use (some (row_content (y + i) b))) e
-        ∙ ap valued_use (sym (row_found b (record_count (generation_of b).base) (generation_of b).top (top_area b s) t i (sym q ∙ d)))
+  top_valued : valued_use (Some (row_content (x + i) b)) ≡ valued_use (find t (generation_of b).top)
+  top_valued =
+      ap (λ (y : ℕ). valued_use (Some (row_content (y + i) b))) e
+      ∙ ap valued_use (sym (row_found b (record_count (generation_of b).base) (generation_of b).top (top_area b s) t i (sym q ∙ d)))
 
-    pub top_use_none : own ≡ Nothing → none ≡ valued_use (find t (generation_of b).top)
-    top_use_none k = ap (λ (h : Held). cond (is_some (held_option h)) (some (use_of (row_content (x + i) b))) none) (sym k) ∙ top_valued
+  pub top_use_none : has_value (row_content (x + i) b) ≡ false → None ≡ valued_use (find t (generation_of b).top)
+  top_use_none h = ap (λ (k : Bool). cond k (Some (use_of (row_content (x + i) b))) None) (sym h) ∙ top_valued
 
-    pub top_use_some : (v : U256) (u : ℕ) → own ≡ HeldValue v → u ≡ use_of (row_content (x + i) b) → some u ≡ valued_use (find t (generation_of b).top)
-    top_use_some v u k m = ap some m ∙ ap (λ (h : Held). cond (is_some (held_option h)) (some (use_of (row_content (x + i) b))) none) (sym k) ∙ top_valued
+  pub top_use_some : (u : ℕ) → has_value (row_content (x + i) b) ≡ true → u ≡ use_of (row_content (x + i) b) → Some u ≡ valued_use (find t (generation_of b).top)
+  top_use_some u h m = ap Some m ∙ ap (λ (k : Bool). cond k (Some (use_of (row_content (x + i) b))) None) (sym h) ∙ top_valued
 
 -- The top has no record of the slot.
-module _ (b : List ℕ) (t : Slot) (s : Installed b) (f : Found) (i : ℕ) (q : f ≡ place_in t (generation_of b).top) (d : f ≡ FoundAbsent i) (n : ℕ) (m : n ≡ length (generation_of b).base) where
-  top_none : find t (generation_of b).top ≡ none
+module _ (b : List ℕ) (t : Slot) (s : Installed b) (f : Found) (i : ℕ) (q : f ≡ place_in t (generation_of b).top) (d : f ≡ Err i) (n : ℕ) (m : n ≡ length (generation_of b).base) where
+  top_none : find t (generation_of b).top ≡ None
   top_none = absent_none (generation_of b).top t i (top_area b s).rises (sym q ∙ d)
 
   all_below : layers_below n (generation_of b).base ≡ (generation_of b).base
@@ -246,16 +239,16 @@ module _ (b : List ℕ) (t : Slot) (s : Installed b) (f : Found) (i : ℕ) (q : 
   pub first_chain : (k row : ℕ) → First t (layers_below n (generation_of b).base) k row b → First t (chain (generation_of b)) k row b
   first_chain k row h = record { room = h.room; few = h.few; use_is = h.use_is ∙ fresh_below; value_is = h.value_is ∙ held_below }
 
-  pub unused : (R : Retention) → freshest_use t (layers_below n (generation_of b).base) ≡ none → none ≡ resolved R (generation_of b) t
+  pub unused : (R : Retention) → freshest_use t (layers_below n (generation_of b).base) ≡ None → None ≡ resolved R (generation_of b) t
   unused R e = ap (λ (x : Option LastUse). resolved_through_policy R (generation_of b).anchor.number x (held_value t (chain (generation_of b)))) (sym e ∙ fresh_below)
 
 -- What a search of the layers below k answered, by the answer.
-module _ (r : Row) (t : Slot) (k : ℕ) (b : List ℕ) (h : HighestIn r t k b) where
-  pub highest_at : (j row : ℕ) → r ≡ RowAt j row → (j < k) × First t (layers_below k (generation_of b).base) j row b
-  highest_at j row e = subst (λ (x : Row). HighestIn x t k b) e h
+module _ (r : Option Row) (t : Slot) (k : ℕ) (b : List ℕ) (h : HighestIn r t k b) where
+  pub highest_at : (w : Row) → r ≡ Some w → (w.layer < k) × First t (layers_below k (generation_of b).base) w.layer w.row b
+  highest_at w e = subst (λ (x : Option Row). HighestIn x t k b) e h
 
-  pub highest_none : r ≡ NoRow → (freshest_use t (layers_below k (generation_of b).base) ≡ none) × (held_value t (layers_below k (generation_of b).base) ≡ none)
-  highest_none e = subst (λ (x : Row). HighestIn x t k b) e h
+  pub highest_none : r ≡ None → (freshest_use t (layers_below k (generation_of b).base) ≡ None) × (held_value t (layers_below k (generation_of b).base) ≡ None)
+  highest_none e = subst (λ (x : Option Row). HighestIn x t k b) e h
 
 -- Of an answer that equals it.
 value_as : (r : ℕ) (b : List ℕ) {o p : Option Value} → o ≡ p → ValueAt r o b → ValueAt r p b
@@ -266,15 +259,15 @@ or_own : (c : Content) (h : Option Value) → has_value c ≡ true → own_value
 or_own c h e = go (own_value c) e
   where
     go : (o : Option Value) → is_some o ≡ true → o ≡ or_else o h
-    go none q = not_both q refl
-    go (some v) q = refl
+    go None q = not_both q refl
+    go (Some v) q = refl
 
 or_below : (c : Content) (h : Option Value) → has_value c ≡ false → h ≡ or_else (own_value c) h
 or_below c h e = go (own_value c) e
   where
     go : (o : Option Value) → is_some o ≡ false → h ≡ or_else o h
-    go none q = refl
-    go (some v) q = not_both refl q
+    go None q = refl
+    go (Some v) q = not_both refl q
 
 module _ (t : Slot) (ls : List Layer) (k row : ℕ) (b : List ℕ) (f : First t ls k row b) where
   pub value_here : has_value (row_content row b) ≡ true → ValueAt (row + 1) (held_value t ls) b
@@ -288,20 +281,20 @@ module _ (t : Slot) (ls : List Layer) (k row : ℕ) (b : List ℕ) (f : First t 
 -- What a look answers ---------------------------------------------------------------------------------
 
 -- Of the freshest use of a slot, tested by the code's retention S and number n with the answer b.
-module _ (R : Retention) (g : Generation) (t : Slot) (u n : ℕ) (S : Retention) (b : Bool) (fresh : some u ≡ freshest_use t (chain g)) (q : S ≡ R) (m : n ≡ g.anchor.number) (d : b ≡ serves S u n) where
-  tested : cond b (held_value t (chain g)) none ≡ resolved R g t
+module _ (R : Retention) (g : Generation) (t : Slot) (u n : ℕ) (S : Retention) (b : Bool) (fresh : Some u ≡ freshest_use t (chain g)) (q : S ≡ R) (m : n ≡ g.anchor.number) (d : b ≡ serves S u n) where
+  tested : cond b (held_value t (chain g)) None ≡ resolved R g t
   tested =
-      ap (λ (x : Bool). cond x (held_value t (chain g)) none) (d ∙ (λ i. serves (q i) u (m i)))
+      ap (λ (x : Bool). cond x (held_value t (chain g)) None) (d ∙ (λ i. serves (q i) u (m i)))
       ∙ ap (λ (x : Option LastUse). resolved_through_policy R g.anchor.number x (held_value t (chain g))) fresh
 
   pub resolved_served : (r : ℕ) (s : List ℕ) → b ≡ true → ValueAt r (held_value t (chain g)) s → ValueAt r (resolved R g t) s
-  resolved_served r s e h = value_as r s (ap (λ (x : Bool). cond x (held_value t (chain g)) none) (sym e) ∙ tested) h
+  resolved_served r s e h = value_as r s (ap (λ (x : Bool). cond x (held_value t (chain g)) None) (sym e) ∙ tested) h
 
-  pub resolved_stale : b ≡ false → none ≡ resolved R g t
-  resolved_stale e = ap (λ (x : Bool). cond x (held_value t (chain g)) none) (sym e) ∙ tested
+  pub resolved_stale : b ≡ false → None ≡ resolved R g t
+  resolved_stale e = ap (λ (x : Bool). cond x (held_value t (chain g)) None) (sym e) ∙ tested
 
 -- The answer of a row, by the row.
-pub no_row : {o : Option Value} {b : List ℕ} → none ≡ o → ValueAt 0 o b
+pub no_row : {o : Option Value} {b : List ℕ} → None ≡ o → ValueAt 0 o b
 no_row e = (λ z. e, λ i q. absurd (omega arith))
 
 pub value_at : (r : ℕ) (o : Option Value) (b : List ℕ) → ValueAt r o b → (r ≡ 0 → ⊥) → ValueIn (r - 1) o b

@@ -1,44 +1,39 @@
 // The layers of a store's generation: its header, and a slot's last use and value searched from a layer down.
 #![tactic(auto)]
 
-ghost use Rattle.std.specs.Prelude.{◌≡◌, true, ◌+◌, ◌*◌, ◌≤◌, ◌<◌, length, drop};
+ghost use Rattle.std.specs.Prelude.{◌≡◌, true, ◌+◌, ◌*◌, ◌≤◌, ◌<◌, length, drop, is_some};
 ghost use Rattle.layout.specs.Layout.{record_size, records_offset};
 ghost use Rattle.model.specs.declared.delta_snapshot.Slot.{Slot};
-ghost use Rattle.model.specs.Contents.{is_some, held_option, use_of, has_value, valued_use};
+ghost use Rattle.model.specs.Contents.{use_of, has_value, valued_use};
 ghost use Rattle.model.specs.Layers.{find, held_value, freshest_use, record_count};
 ghost use Rattle.model.specs.Store.{chain, resolved};
 ghost use Rattle.image.specs.WellFormed.{rising};
 ghost use Rattle.image.specs.Area.{records_of, layers_below};
 ghost use Rattle.image.specs.Lent.{store_of, generation_of, IsStore, Installed, layer_of};
 ghost use Rattle.records.specs.Records.{place_in, place_number};
-ghost use Rattle.layers.specs.Answers.{use_option, row_content, PlaceOf, First, HighestIn, ValueAt};
+ghost use Rattle.layers.specs.Answers.{row_content, PlaceOf, First, HighestIn, ValueAt};
 
-use model::delta_snapshot::{Held, Retention, Slot};
+use model::delta_snapshot::{Retention, Slot};
+use model::storage_memo::U256;
 use records::Found;
 
-// The last use of a slot, if it has one.
+// A record: the number of its layer, and its own among all records of the store.
 #[derive(Clone, Copy)]
-pub enum Use {
-    None,
-    At(u64),
-}
-
-// The highest record of a slot in some layers, if there is one: the number of its layer, and its own among all records of the store.
-#[derive(Clone, Copy)]
-pub enum Row {
-    None,
-    At { layer: usize, row: usize },
+pub struct Row {
+    pub layer: usize,
+    pub row: usize,
 }
 
 // The store's retention.
+#[tactic(auto, using(crate::proofs::Header::header_room, crate::proofs::Header::retention_is))]
 pub fn retention(s: &[u8]) -> Retention
     requires { IsStore s.now }
     ensures { result ≡ (store_of s.now).config.retention }
 {
-    if words::read_u64(s, layout::RETENTION_OFFSET) == 0 {
-        return Retention::Unbounded;
-    }
-    Retention::IdleBlocks(words::read_u64(s, layout::IDLE_OFFSET))
+    Retention::of_words(
+        words::read_u64(s, layout::RETENTION_OFFSET),
+        words::read_u64(s, layout::IDLE_OFFSET),
+    )
 }
 
 // Whether a generation is installed.
@@ -112,7 +107,7 @@ fn row_has(s: &[u8], row: usize) -> bool
 }
 
 // The value of record `row` of all records, or none.
-fn row_held(s: &[u8], row: usize) -> Held
+fn row_held(s: &[u8], row: usize) -> Option<U256>
     requires { records_offset + record_size * (row + 1) ≤ length s.now }
     ensures { result ≡ (row_content row s.now).held }
 {
@@ -151,46 +146,46 @@ fn layer_place(s: &[u8], k: usize, start: usize, end: usize, slot: Slot) -> Foun
     ensures { result ≡ place_in slot (layer_of k (generation_of s.now).base) }
 {
     if start == end {
-        return Found::Absent(0);
+        return Err(0);
     }
     records::place_of(place_from(s, start, end - start, slot))
 }
 
 // The last use of a slot's record in the top, by its place there, if it has a value.
-pub fn top_valued_use(s: &[u8], place: Found) -> Use
+pub fn top_valued_use(s: &[u8], place: Found) -> Option<u64>
     requires { Installed s.now × PlaceOf place (generation_of s.now).top }
-    ensures { (t : Slot) → place ≡ place_in t (generation_of s.now).top → use_option result ≡ valued_use (find t (generation_of s.now).top) }
+    ensures { (t : Slot) → place ≡ place_in t (generation_of s.now).top → result ≡ valued_use (find t (generation_of s.now).top) }
 {
-    let Found::At(i) = place else {
-        return Use::None;
+    let Ok(i) = place else {
+        return None;
     };
     let row = top_start(s) + i;
-    let Held::Value(_) = row_held(s, row) else {
-        return Use::None;
-    };
-    Use::At(row_use(s, row))
+    if row_has(s, row) {
+        return Some(row_use(s, row));
+    }
+    None
 }
 
 // The highest record of a slot in the layers below k: in layer k - 1, or from there down. Its use is the freshest there: a slot's last use does not fall from a layer to the next above.
-fn highest(s: &[u8], k: usize, slot: Slot) -> Row
+fn highest(s: &[u8], k: usize, slot: Slot) -> Option<Row>
     requires { Installed s.now × (k ≤ length (generation_of s.now).base) }
     ensures { HighestIn result slot k s.now }
 {
     if k == 0 {
-        return Row::None;
+        return None;
     }
     let start = layer_start(s, k - 1);
     let place = layer_place(s, k - 1, start, layer_start(s, k), slot);
-    let Found::At(i) = place else {
+    let Ok(i) = place else {
         if start == 0 {
-            return Row::None;
+            return None;
         }
         return highest(s, k - 1, slot);
     };
-    Row::At {
+    Some(Row {
         layer: k - 1,
         row: start + i,
-    }
+    })
 }
 
 // One more than the number of the highest record of a slot with a value in the layers below k, its highest record there or one from that record's layer down; 0 if there is none.
@@ -198,26 +193,22 @@ fn value_row(s: &[u8], k: usize, slot: Slot) -> usize
     requires { Installed s.now × (k ≤ length (generation_of s.now).base) }
     ensures { ValueAt result (held_value slot (layers_below k (generation_of s.now).base)) s.now }
 {
-    let found = highest(s, k, slot);
-    let Row::At { layer, row } = found else {
+    let Some(found) = highest(s, k, slot) else {
         return 0;
     };
-    if row_has(s, row) {
-        return row + 1;
+    if row_has(s, found.row) {
+        return found.row + 1;
     }
-    value_row(s, layer, slot)
+    value_row(s, found.layer, slot)
 }
 
 // The largest last use of a slot in the layers below k.
-pub fn freshest_use(s: &[u8], k: usize, slot: Slot) -> Use
+pub fn freshest_use(s: &[u8], k: usize, slot: Slot) -> Option<u64>
     requires { Installed s.now × (k ≤ length (generation_of s.now).base) }
-    ensures { use_option result ≡ freshest_use slot (layers_below k (generation_of s.now).base) }
+    ensures { result ≡ freshest_use slot (layers_below k (generation_of s.now).base) }
 {
-    let used = highest(s, k, slot);
-    let Row::At { layer: _, row } = used else {
-        return Use::None;
-    };
-    Use::At(row_use(s, row))
+    let found = highest(s, k, slot)?;
+    Some(row_use(s, found.row))
 }
 
 // One more than the number of the record whose value a look of a slot answers whose highest record is `row`: this one, or one from layer k - 1 down, if its use serves; else 0.
@@ -241,32 +232,31 @@ pub fn served_row(s: &[u8], place: Found, slot: Slot) -> usize
     ensures { ValueAt result (resolved (store_of s.now).config.retention (generation_of s.now) slot) s.now }
 {
     let n = layers(s);
-    if let Found::At(i) = place {
+    if let Ok(i) = place {
         return served(s, n, top_start(s) + i, slot);
     }
-    let found = highest(s, n, slot);
-    let Row::At { layer, row } = found else {
+    let Some(found) = highest(s, n, slot) else {
         return 0;
     };
-    served(s, layer, row, slot)
+    served(s, found.layer, found.row, slot)
 }
 
 // What a look of a slot answers, by its place in the top.
-pub fn resolved_at(s: &[u8], place: Found, slot: Slot) -> Held
+pub fn resolved_at(s: &[u8], place: Found, slot: Slot) -> Option<U256>
     requires { Installed s.now × (place ≡ place_in slot (generation_of s.now).top) }
-    ensures { held_option result ≡ resolved (store_of s.now).config.retention (generation_of s.now) slot }
+    ensures { result ≡ resolved (store_of s.now).config.retention (generation_of s.now) slot }
 {
     let found = served_row(s, place, slot);
     if found == 0 {
-        return Held::Nothing;
+        return None;
     }
     row_held(s, found - 1)
 }
 
 // What a look of a slot answers.
-pub fn resolved(s: &[u8], slot: Slot) -> Held
+pub fn resolved(s: &[u8], slot: Slot) -> Option<U256>
     requires { Installed s.now }
-    ensures { held_option result ≡ resolved (store_of s.now).config.retention (generation_of s.now) slot }
+    ensures { result ≡ resolved (store_of s.now).config.retention (generation_of s.now) slot }
 {
     resolved_at(s, top_place(s, slot), slot)
 }

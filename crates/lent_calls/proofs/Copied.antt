@@ -1,9 +1,9 @@
 -- The words of a value, copied from its record.
+use Rattle.std.specs.Prelude.{Option, Some}
 use Prim.Native.Nat.{ℕ, ◌+◌, ◌*◌, ◌≤◌}
 use mathlib.Core.Path.{◌≡◌, refl, sym, ap, ◌∙◌}
 use mathlib.Core.Bool.{true}
 use mathlib.Core.List.{List, [], ◌∷◌, ◌++◌, append-nil}
-use mathlib.Core.Option.{Option, some}
 use native.Mathlib.Omega.{arith}
 use native.Mathlib.Nat.{add_assoc}
 use lib.ListN.{length, drop, length-drop}
@@ -11,7 +11,7 @@ use lib.Seq.{drop-drop, drop-length, length-take-le}
 use Rattle.layout.specs.Layout.{record_size, records_offset, value_offset, value_index}
 use Rattle.model.specs.Numbers.{num, be, Bytes}
 use Rattle.model.specs.Slots.{Value, u256_words, read_u256}
-use Rattle.model.specs.Contents.{own_value, has_value, held_option, value_words}
+use Rattle.model.specs.Contents.{own_value, has_value, value_words}
 use Rattle.model.proofs.EntryLaws.{bytes_drop}
 use Rattle.model.proofs.NumberLaws.{length_be}
 use Rattle.words.specs.Parts.{part, placed}
@@ -40,8 +40,8 @@ module _ (row : ℕ) (b : List ℕ) (f : Bytes b) (room : records_offset + recor
   abbrev stored : Value
   stored = read_u256 (drop value_index (words_at row rows))
 
-  stored_is : own_value (row_content row b) ≡ some stored
-  stored_is = sym (ap held_option (held_value row rows (has_value_at row rows ∙ has)))
+  stored_is : own_value (row_content row b) ≡ Some stored
+  stored_is = sym (held_value row rows (has_value_at row rows ∙ has))
 
   -- Its bytes.
   pub value_bytes : bytes_of (u256_words stored) ≡ part (records_offset + record_size * row + value_offset) 32 b

@@ -1,18 +1,17 @@
 -- What is given: a refusal's number, or words that are written. Assumes nothing.
+use Rattle.std.specs.Prelude.{Ok, Err}
+use Rattle.std.specs.Prelude.{None, Option, Some}
 use Prim.Native.Nat.{ℕ}
 use mathlib.Core.Path.{◌≡◌, refl, sym, ap₂, subst, ◌∙◌}
 use mathlib.Core.List.{List, [], ◌∷◌, ◌++◌}
-use mathlib.Core.Option.{Option, some, none}
 use Rattle.model.specs.Slots.{Value}
 use Rattle.model.specs.Contents.{value_words}
 use Rattle.model.specs.Entries.{slot_of}
 use Rattle.model.specs.Store.{value_report}
 use Rattle.model.specs.Refusals.{ok}
 use Rattle.replies.specs.declared.DeltaReport.{DeltaReport}
-use Rattle.replies.specs.declared.OpenReply.{OpenReply}
-use Rattle.replies.specs.declared.OpenReply.TheVariants.{Refused as open_refused, Opened}
-use Rattle.replies.specs.declared.PutReply.{PutReply}
-use Rattle.replies.specs.declared.PutReply.TheVariants.{Refused as put_refused, Stored}
+use Rattle.replies.specs.Replies.{OpenReply}
+use Rattle.replies.specs.Replies.{PutReply}
 use Rattle.image.specs.Image.{bytes_of}
 use Rattle.replies.specs.Replies.{delta_report, open_reply, put_reply}
 use Rattle.seed.proofs.Entries.{length_chunks}
@@ -27,8 +26,8 @@ written_gives {replied} {reply} e q = subst (λ (y : Given). Gives 0 replied y r
 
 -- A value, or none.
 pub valued_gives : {replied reply : List ℕ} (o : Option Value) → replied ≡ with_words (value_words o) reply → Gives 0 replied (answer_given (ok (value_report o))) reply
-valued_gives none e = written_gives e refl
-valued_gives (some v) e = written_gives e refl
+valued_gives None e = written_gives e refl
+valued_gives (Some v) e = written_gives e refl
 
 -- The words of an advance, by those of its outcome and its counts.
 pub advance_words : (d : DeltaReport) (out reply : List ℕ) {replied ws : List ℕ} → outcome_words d.outcome ≡ ws → replied ≡ with_words (ws ++ count_words d) reply → replied ≡ with_words (delta_words (delta_report d out)) reply
@@ -41,9 +40,9 @@ unfolding bytes_of
 no_words = refl
 
 pub open_gives : {code : ℕ} {reply : List ℕ} (r : OpenReply) → code ≡ code_of (answer_given (open_reply r)) → Gives code reply (answer_given (open_reply r)) reply
-open_gives (open_refused n) e = record { code_is = e; reply_is = refl }
-open_gives Opened e = record { code_is = e; reply_is = no_words }
+open_gives (Err n) e = record { code_is = e; reply_is = refl }
+open_gives (Ok x) e = record { code_is = e; reply_is = no_words }
 
 pub put_gives : {code : ℕ} {reply : List ℕ} (r : PutReply) → code ≡ code_of (answer_given (put_reply r)) → Gives code reply (answer_given (put_reply r)) reply
-put_gives (put_refused n) e = record { code_is = e; reply_is = refl }
-put_gives Stored e = record { code_is = e; reply_is = no_words }
+put_gives (Err n) e = record { code_is = e; reply_is = refl }
+put_gives (Ok x) e = record { code_is = e; reply_is = no_words }

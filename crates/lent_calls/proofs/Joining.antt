@@ -7,14 +7,13 @@ use borrow.Author.Tests.{lt-leb, le-leb}
 use Rattle.model.specs.Refusals.{Answer, refuse}
 use Rattle.image.specs.Image.{BytesResult}
 use Rattle.image.specs.Output.{output_after}
-use Rattle.replies.specs.declared.AdvanceReply.{AdvanceReply}
-use Rattle.replies.specs.declared.TakeReply.{TakeReply}
+use Rattle.replies.specs.Replies.{AdvanceReply}
+use Rattle.replies.specs.Replies.{TakeReply}
 use Rattle.replies.specs.Replies.{Stepped, Took, AdvancedAs}
 use Rattle.call_run.specs.declared.RunReply.{RunReply}
 use Rattle.call_run.specs.Run.{RanAs}
-use Rattle.final_writes.specs.declared.FinalWritesReply.{FinalWritesReply}
 use Rattle.final_writes.specs.FinalWrites.{FinalWrites}
-use Rattle.final_writes.specs.Lent.{final_writes_reply, Answers}
+use Rattle.final_writes.specs.Lent.{FinalWritesReply, final_writes_reply, Answers}
 use Rattle.lent_calls.specs.ReplyWords.{Given, Gives, answer_given, run_given, final_given}
 use Rattle.lent_calls.specs.Exported.{lent_step, lent_given, lent_final, known_form, Exported, ExportedOutput, ExportedRun, ExportedFinal}
 use Rattle.lent_calls.proofs.Giving.{refused_gives}

@@ -1,13 +1,12 @@
 -- Bytes that are a store are one after an answer with any members, and after a run. Assumes nothing.
+use Rattle.std.specs.Prelude.{None, Option, Some, is_some}
 use Prim.Native.Nat.{ℕ}
 use mathlib.Core.Path.{◌≡◌, refl, ap, ◌∙◌}
 use mathlib.Core.Bool.{Bool, true, false, cond}
 use mathlib.Core.List.{List}
-use mathlib.Core.Option.{Option, some, none}
 use lib.ListN.{length, drop}
 use Rattle.model.specs.declared.storage_memo.ReadAnchor.{ReadAnchor}
 use Rattle.model.specs.Numbers.{Bytes}
-use Rattle.model.specs.Contents.{is_some}
 use Rattle.model.specs.Entries.{members_of, flags_known}
 use Rattle.model.specs.Store.{Memory, Call, open_store, on_store, at_anchor, answer, accept}
 use Rattle.model.specs.Refusals.{refuse, refusal, conclude, step}
@@ -30,10 +29,10 @@ use Rattle.lent_calls.specs.Exported.{Keeps}
 -- One call.
 concluded : (m : Memory) (c : Call) (r : Option ℕ) → is_some m ≡ true → is_some (conclude r m (accept m c)).memory ≡ true
 unfolding accept
-concluded m c (some n) e = e
-concluded m (open_store n d R) none e = refl
-concluded none (on_store c) none e = e
-concluded (some st) (on_store c) none e = refl
+concluded m c (Some n) e = e
+concluded m (open_store n d R) None e = refl
+concluded None (on_store c) None e = e
+concluded (Some st) (on_store c) None e = refl
 
 pub keeps : (b : List ℕ) (k : BytesCall) → call_fits k.call ≡ true → {after : List ℕ} → after ≡ (bytes_step b k).bytes → Keeps b after
 unfolding bytes_step step

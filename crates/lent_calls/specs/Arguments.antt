@@ -1,11 +1,9 @@
 -- The arguments of an exported call: which lent bytes are long enough, and what they give. Bytes past what is named here are not read.
-use Rattle.std.specs.Prelude.{ℕ, Bool, ◌&&◌, ◌||◌, cond, List, eqb, leb, length}
+use Rattle.std.specs.Prelude.{ℕ, Bool, ◌&&◌, ◌||◌, cond, List, eqb, leb, length, None, Option, Some}
 use Rattle.model.specs.declared.delta_snapshot.Retention.{Retention}
 use Rattle.model.specs.declared.delta_snapshot.Retention.TheVariants.{Unbounded, IdleBlocks}
 use Rattle.model.specs.Store.{open_store}
 use Rattle.model.specs.Refusals.{capacity_out_of_range, store_size}
-use Rattle.bal_plan.specs.declared.Cap.{Cap}
-use Rattle.bal_plan.specs.declared.Cap.TheVariants.{Unlimited, AtMost}
 
 -- A reply has twelve words, the most that a call answers (an advance).
 abbrev pub reply_size : ℕ
@@ -36,8 +34,8 @@ abbrev pub lent_retention : ℕ → ℕ → Retention
 lent_retention form idle = cond (eqb form 0) Unbounded (IdleBlocks idle)
 
 -- The cap of a number: the largest word is no cap.
-abbrev pub lent_cap : ℕ → Cap
-lent_cap n = cond (eqb n 0xffffffffffffffff) Unlimited (AtMost n)
+abbrev pub lent_cap : ℕ → Option ℕ
+lent_cap n = cond (eqb n 0xffffffffffffffff) None (Some n)
 
 -- The bytes of a store of a capacity; 0 for a capacity that an open refuses.
 abbrev pub lent_size : ℕ → ℕ

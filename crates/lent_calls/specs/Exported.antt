@@ -1,6 +1,5 @@
 -- What the contract of an exported function says.
-use Rattle.std.specs.Prelude.{ℕ, ◌≡◌, Bool, true, false, cond, List, leb}
-use Rattle.model.specs.Contents.{is_some}
+use Rattle.std.specs.Prelude.{ℕ, ◌≡◌, Bool, true, false, cond, List, leb, is_some}
 use Rattle.model.specs.Refusals.{refuse}
 use Rattle.image.specs.Image.{BytesResult, decode}
 use Rattle.image.specs.Output.{output_after}

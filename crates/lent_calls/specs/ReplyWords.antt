@@ -1,6 +1,5 @@
 -- What an exported call gives: a number, and words of eight bytes at the beginning of its lent reply.
-use Rattle.std.specs.Prelude.{ℕ, ◌≡◌, List, [], ◌∷◌, ◌++◌, length}
-use Rattle.std.proofs.Math.Option.{Option, some, none}
+use Rattle.std.specs.Prelude.{ℕ, ◌≡◌, List, [], ◌∷◌, ◌++◌, length, None, Option, Some}
 use Rattle.model.specs.declared.read_hub.CarryOutcome.{CarryOutcome}
 use Rattle.model.specs.declared.read_hub.CarryOutcome.TheVariants.{AlreadyCurrent, Carried, Cold}
 use Rattle.model.specs.Slots.{u256_words}
@@ -73,12 +72,12 @@ answer_given (ok r) = accepted (report_words r)
 
 -- The read totals of the installed generation: 21 where there is none, 20 where the bytes are no store.
 abbrev pub installed_totals : Option Generation → Given
-installed_totals none = refused_by 21
-installed_totals (some g) = accepted (totals_words g.totals)
+installed_totals None = refused_by 21
+installed_totals (Some g) = accepted (totals_words g.totals)
 
 abbrev pub totals_given : Memory → Given
-totals_given none = refused_by 20
-totals_given (some st) = installed_totals st.installed
+totals_given None = refused_by 20
+totals_given (Some st) = installed_totals st.installed
 
 -- A run: 0 where it stopped for lack of room, 1 at the list's end, 2 at a fault; the place of the next call or of the fault, the bytes written, the fault.
 abbrev pub run_given : RunReply → Given

@@ -1,8 +1,7 @@
 // A call's arguments from lent bytes, and its reply as a number and as words in a lent output: what the exported functions (crate poxilme) take and give.
 #![tactic(auto)]
 
-ghost use Rattle.std.specs.Prelude.{◌≡◌, true, List, ◌∷◌, ◌++◌, [], ℕ, ◌+◌, ◌*◌, ◌≤◌, length};
-ghost use Rattle.std.proofs.Math.Option.{none};
+ghost use Rattle.std.specs.Prelude.{◌≡◌, true, List, ◌∷◌, ◌++◌, [], ℕ, ◌+◌, ◌*◌, ◌≤◌, length, None};
 ghost use Rattle.layout.specs.Layout.{record_size, records_offset};
 ghost use Rattle.model.specs.Slots.{u256_words};
 ghost use Rattle.model.specs.Contents.{own_value, has_value, value_words};
@@ -12,19 +11,19 @@ ghost use Rattle.replies.specs.Replies.{open_reply, install_reply, look_reply, p
 ghost use Rattle.final_writes.specs.Lent.{final_writes_reply};
 ghost use Rattle.layers.specs.Answers.{row_content};
 ghost use Rattle.header.specs.Header.{lent_anchor};
-ghost use Rattle.lent_calls.specs.Arguments.{reply_size, reply_enough, hash_enough, anchored_enough, slot_enough, put_enough, advance_enough, lent_retention, lent_cap};
+ghost use Rattle.lent_calls.specs.Arguments.{reply_size, reply_enough, hash_enough, anchored_enough, slot_enough, put_enough, advance_enough, lent_cap};
 ghost use Rattle.lent_calls.specs.Inner.{count_words};
 ghost use Rattle.lent_calls.specs.ReplyWords.{with_words, delta_words, Gives, code_of, answer_given, run_given, final_given};
 
-use bal_plan::Cap;
 use call_run::RunReply;
 use final_writes::FinalWritesReply;
-use model::delta_snapshot::{Retention, Slot};
+use model::delta_snapshot::Slot;
 use model::read_hub::{CarryOutcome, ReadTotals};
+use model::refusal::Refusal;
 use model::storage_memo::{ReadAnchor, U256};
 use replies::{
-    AdvanceReply, AnswerReply, DeltaReport, InstallReply, LookReply, OpenReply, PutReply,
-    ReadReply, TakeReply,
+    AdvanceReply, AnswerReply, Answered, DeltaReport, InstallReply, Installed, LookReply,
+    ReadOutcome, ReadReply, TakeReply,
 };
 
 // The bytes that a lent reply has at least.
@@ -110,24 +109,11 @@ pub fn value(b: &[u8]) -> U256
     entries::read_u256(b, 0)
 }
 
-// The retention of a form, 0 or another, and its blocks.
-pub fn retention(bounded: u64, idle: u64) -> Retention
-    ensures { result ≡ lent_retention bounded idle }
-{
-    if bounded == 0 {
-        return Retention::Unbounded;
-    }
-    Retention::IdleBlocks(idle)
-}
-
 // The cap of a number.
-pub fn cap(n: u64) -> Cap
+pub fn cap(n: u64) -> Option<u64>
     ensures { result ≡ lent_cap n }
 {
-    if n == UNLIMITED {
-        return Cap::Unlimited;
-    }
-    Cap::AtMost(n)
+    if n == UNLIMITED { None } else { Some(n) }
 }
 
 // Words at the beginning of a reply.
@@ -135,20 +121,19 @@ fn write_words(reply: &mut [u8], ws: &[u64])
     requires { 8 * length ws.now ≤ length reply.old }
     ensures { reply.new ≡ with_words ws.now reply.old }
 {
-    let mut i = 0;
-    while i < ws.len() {
-        words::write_u64(reply, 8 * i, ws[i]);
-        i += 1;
+    for (i, w) in ws.iter().enumerate() {
+        words::write_u64(reply, 8 * i, *w);
     }
 }
 
-// The number of an open's reply; it has no words.
-pub fn open_code(r: OpenReply) -> u64
-    ensures { result ≡ code_of (answer_given (open_reply r)) }
+// The number of an open's reply or a put's; they have no words.
+pub fn code(r: Result<(), Refusal>) -> u64
+    ensures of_open { result ≡ code_of (answer_given (open_reply r)) }
+    ensures of_put { result ≡ code_of (answer_given (put_reply r)) }
 {
     match r {
-        OpenReply::Refused(n) => n,
-        OpenReply::Opened => 0,
+        Ok(()) => 0,
+        Err(e) => e.number(),
     }
 }
 
@@ -158,15 +143,13 @@ pub fn write_install(reply: &mut [u8], r: InstallReply) -> u64
     ensures { Gives result reply.new (answer_given (install_reply r)) reply.old }
 {
     match r {
-        InstallReply::Refused(n) => n,
-        InstallReply::Same => {
-            let ws = [0];
-            write_words(reply, &ws);
+        Err(refusal) => refusal.number(),
+        Ok(Installed::Same) => {
+            write_words(reply, &[0]);
             0
         }
-        InstallReply::Fresh => {
-            let ws = [1];
-            write_words(reply, &ws);
+        Ok(Installed::Fresh) => {
+            write_words(reply, &[1]);
             0
         }
     }
@@ -177,14 +160,13 @@ fn write_value(reply: &mut [u8], v: U256)
     requires { reply_size ≤ length reply.old }
     ensures { reply.new ≡ with_words (1 ∷ u256_words v) reply.old }
 {
-    let ws = [1, v.w0, v.w1, v.w2, v.w3];
-    write_words(reply, &ws);
+    write_words(reply, &[1, v.w0, v.w1, v.w2, v.w3]);
 }
 
 // The words of no value: five of 0.
 pub fn write_no_value(reply: &mut [u8])
     requires { reply_size ≤ length reply.old }
-    ensures { reply.new ≡ with_words (value_words none) reply.old }
+    ensures { reply.new ≡ with_words (value_words None) reply.old }
 {
     words::clear(reply, 0, 40);
 }
@@ -207,26 +189,15 @@ pub fn write_look(reply: &mut [u8], r: LookReply) -> u64
     ensures { Gives result reply.new (answer_given (look_reply r)) reply.old }
 {
     match r {
-        LookReply::Refused(n) => n,
-        LookReply::Nothing => {
-            let ws = [0, 0, 0, 0, 0];
-            write_words(reply, &ws);
+        Err(refusal) => refusal.number(),
+        Ok(None) => {
+            write_words(reply, &[0, 0, 0, 0, 0]);
             0
         }
-        LookReply::Value(v) => {
+        Ok(Some(v)) => {
             write_value(reply, v);
             0
         }
-    }
-}
-
-// The number of a put's reply; it has no words.
-pub fn put_code(r: PutReply) -> u64
-    ensures { result ≡ code_of (answer_given (put_reply r)) }
-{
-    match r {
-        PutReply::Refused(n) => n,
-        PutReply::Stored => 0,
     }
 }
 
@@ -278,8 +249,8 @@ pub fn write_advance(reply: &mut [u8], r: AdvanceReply) -> u64
     ensures { (out : List ℕ) → Gives result reply.new (answer_given (advance_reply r out)) reply.old }
 {
     match r {
-        AdvanceReply::Refused(n) => n,
-        AdvanceReply::Advanced(d) => {
+        Err(refusal) => refusal.number(),
+        Ok(d) => {
             write_delta(reply, d);
             0
         }
@@ -292,14 +263,13 @@ pub fn write_read(reply: &mut [u8], r: ReadReply) -> u64
     ensures { Gives result reply.new (answer_given (read_reply r)) reply.old }
 {
     match r {
-        ReadReply::Refused(n) => n,
-        ReadReply::Value(v) => {
+        Err(refusal) => refusal.number(),
+        Ok(ReadOutcome::Value(v)) => {
             write_value(reply, v);
             0
         }
-        ReadReply::Waiting(n) => {
-            let ws = [0, n, 0, 0, 0];
-            write_words(reply, &ws);
+        Ok(ReadOutcome::Waiting(n)) => {
+            write_words(reply, &[0, n, 0, 0, 0]);
             0
         }
     }
@@ -311,10 +281,9 @@ pub fn write_take(reply: &mut [u8], r: TakeReply) -> u64
     ensures { (out : List ℕ) → Gives result reply.new (answer_given (take_reply r out)) reply.old }
 {
     match r {
-        TakeReply::Refused(n) => n,
-        TakeReply::Listed(n) => {
-            let ws = [n];
-            write_words(reply, &ws);
+        Err(refusal) => refusal.number(),
+        Ok(n) => {
+            write_words(reply, &[n]);
             0
         }
     }
@@ -326,14 +295,15 @@ pub fn write_answer(reply: &mut [u8], r: AnswerReply) -> u64
     ensures { Gives result reply.new (answer_given (answer_reply r)) reply.old }
 {
     match r {
-        AnswerReply::Refused(n) => n,
-        AnswerReply::Answered {
-            members,
-            errors,
-            woken,
-        } => {
-            let ws = [members, errors, woken];
-            write_words(reply, &ws);
+        Err(refusal) => refusal.number(),
+        Ok(
+            Answered {
+                members,
+                errors,
+                woken,
+            },
+        ) => {
+            write_words(reply, &[members, errors, woken]);
             0
         }
     }
@@ -370,8 +340,7 @@ pub fn write_run(reply: &mut [u8], r: RunReply) -> u64
             written,
             ended,
         } => {
-            let ws = [ended as u64, next.at as u64, written as u64, 0];
-            write_words(reply, &ws);
+            write_words(reply, &[ended as u64, next.at as u64, written as u64, 0]);
             0
         }
         RunReply::Broken {
@@ -379,8 +348,7 @@ pub fn write_run(reply: &mut [u8], r: RunReply) -> u64
             place,
             written,
         } => {
-            let ws = [2, place.at as u64, written as u64, fault];
-            write_words(reply, &ws);
+            write_words(reply, &[2, place.at as u64, written as u64, fault]);
             0
         }
     }
@@ -392,8 +360,8 @@ pub fn write_final_writes(reply: &mut [u8], r: FinalWritesReply) -> u64
     ensures { (wo ro : List ℕ) → Gives result reply.new (final_given (final_writes_reply r wo ro)) reply.old }
 {
     match r {
-        FinalWritesReply::Refused(n) => n,
-        FinalWritesReply::Seeded(c) => {
+        Err(refusal) => refusal.number(),
+        Ok(c) => {
             let ws = [c.writes, c.reads, c.filtered, c.capped];
             write_words(reply, &ws);
             0

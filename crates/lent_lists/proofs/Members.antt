@@ -1,8 +1,8 @@
 -- The members of a list, and as entries of a lent answer. Assumes nothing.
+use Rattle.std.specs.Prelude.{None, Option, Some}
 use mathlib.Core.Path.{◌≡◌, refl, sym, ap, ap₂, ◌∙◌}
 use mathlib.Core.Bool.{Bool, true, false, cond}
 use mathlib.Core.List.{List, [], ◌∷◌, ◌++◌, map, append_assoc, append-nil}
-use mathlib.Core.Option.{Option, some, none}
 use Prim.Native.Nat.{ℕ, zero, suc, ◌+◌, ◌-◌, ◌*◌, ◌/◌, ◌≤◌, ◌<◌}
 use native.Mathlib.Nat.{le-div_iff_mul-le, sub-zero}
 use native.Mathlib.Numerals.{add-one}
@@ -60,7 +60,7 @@ form_read (b ∷ l) f r e = by (ltb 1 b) e
 outcome_read : (f : Bool) (l : List ℕ) (o : Option U256) (r : List ℕ) → parse_outcome f l ≡ parsed o r → (cond f 32 0 ≤ length l) × (r ≡ drop (cond f 32 0) l)
 outcome_read false l o r e = (omega arith, cc)
 outcome_read true l o r e =
-    then_read (parse_u256 l) (λ v q. parsed (some v) q) o r e
+    then_read (parse_u256 l) (λ v q. parsed (Some v) q) o r e
     (λ v q d g.
     let h = fixed_read (u256_at 0) 32 l v q d in
     let s : q ≡ r = cc in
@@ -162,15 +162,15 @@ valued_entry : (d : List ℕ) → eqb (get_or d 52 0) 1 ≡ true → get_or d 52
 valued_entry d t e =
     let s : slot_of (take 85 d) ≡ slot_of (take 52 d) = sym (slot_of_take (take 85 d)) ∙ ap slot_of (take-take 52 85 d (omega arith)) in
     let m : get_or (take 85 d) 52 0 ≡ 1 = get_or-take 85 d 52 0 (omega arith) ∙ e in
-    let o : ◌≡◌ {A = Option U256} (cond (eqb (get_or (take 85 d) 52 0) 0) none (some (u256_at 53 (take 85 d)))) (cond (eqb (get_or d 52 0) 1) (some (u256_at 0 (take 32 (drop 53 d)))) none) =
-    ap₂ (λ (n : ℕ) (v : U256). cond (eqb n 0) none (some v)) m (value_is d) ∙ sym (ap (λ (b : Bool). cond b (some (u256_at 0 (take 32 (drop 53 d)))) none) t) in
+    let o : ◌≡◌ {A = Option U256} (cond (eqb (get_or (take 85 d) 52 0) 0) None (Some (u256_at 53 (take 85 d)))) (cond (eqb (get_or d 52 0) 1) (Some (u256_at 0 (take 32 (drop 53 d)))) None) =
+    ap₂ (λ (n : ℕ) (v : U256). cond (eqb n 0) None (Some v)) m (value_is d) ∙ sym (ap (λ (b : Bool). cond b (Some (u256_at 0 (take 32 (drop 53 d)))) None) t) in
     λ j. record { slot = s j; outcome = o j }
 
 refused_entry : (b d : List ℕ) → eqb (get_or d 52 0) 1 ≡ false → get_or b 52 0 ≡ 0 → take 52 b ≡ take 52 d → lent.member_of b ≡ member_of d
 refused_entry b d t e g =
     let s : slot_of b ≡ slot_of (take 52 d) = sym (slot_of_take b) ∙ ap slot_of g in
-    let o : ◌≡◌ {A = Option U256} (cond (eqb (get_or b 52 0) 0) none (some (u256_at 53 b))) (cond (eqb (get_or d 52 0) 1) (some (u256_at 0 (take 32 (drop 53 d)))) none) =
-    ap (λ (n : ℕ). cond (eqb n 0) none (some (u256_at 53 b))) e ∙ sym (ap (λ (x : Bool). cond x (some (u256_at 0 (take 32 (drop 53 d)))) none) t) in
+    let o : ◌≡◌ {A = Option U256} (cond (eqb (get_or b 52 0) 0) None (Some (u256_at 53 b))) (cond (eqb (get_or d 52 0) 1) (Some (u256_at 0 (take 32 (drop 53 d)))) None) =
+    ap (λ (n : ℕ). cond (eqb n 0) None (Some (u256_at 53 b))) e ∙ sym (ap (λ (x : Bool). cond x (Some (u256_at 0 (take 32 (drop 53 d)))) None) t) in
     λ j. record { slot = s j; outcome = o j }
 
 -- What was placed, and what stands before it.

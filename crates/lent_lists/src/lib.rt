@@ -29,9 +29,7 @@ pub fn expand_members(list: &[u8], span: Span, members: &mut [u8])
     ensures { (members_of (take (span.count * 85) members.new) ≡ members_at list.now span) × (span.count * 85 ≤ length members.new) × (length members.new ≡ length members.old) }
 {
     let mut at = span.start;
-    let mut k = 0;
-    while k < span.count {
+    for k in 0..span.count {
         at = expand_member(list, at, members, k);
-        k += 1;
     }
 }

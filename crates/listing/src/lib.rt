@@ -14,7 +14,7 @@ use model::read_hub::{CarryOutcome, Lineage};
 use model::storage_memo::U256;
 
 // The counts of an advance's report.
-#[derive(Clone, Copy)]
+#[derive(Clone, Copy, Debug, PartialEq, Eq)]
 pub struct AdvanceCounts {
     pub applied: u64,
     pub overwritten: u64,
@@ -35,25 +35,14 @@ fn write_field(out: &mut [u8], at: usize, n: u64) -> usize
     digits::write_decimal(out, next, n)
 }
 
-// A line of one word.
-fn word_line(out: &mut [u8], at: usize, word: &[u8]) -> usize
-    requires { at + length (line word.now []) ≤ length out.old }
-    ensures { Written at (line word.now []) out.old out.new result }
-{
-    let end = digits::write_bytes(out, at, word);
-    digits::write_byte(out, end, 10)
-}
-
-// A line of a word and numbers.
-fn numbers_line(out: &mut [u8], at: usize, word: &[u8], numbers: &[u64]) -> usize
+// A line of a word and the numbers after it, if any.
+pub fn word_line(out: &mut [u8], at: usize, word: &[u8], numbers: &[u64]) -> usize
     requires { at + length (line word.now (decimals numbers.now)) ≤ length out.old }
     ensures { Written at (line word.now (decimals numbers.now)) out.old out.new result }
 {
     let mut next = digits::write_bytes(out, at, word);
-    let mut i = 0;
-    while i < numbers.len() {
-        next = write_field(out, next, numbers[i]);
-        i += 1;
+    for n in numbers {
+        next = write_field(out, next, *n);
     }
     digits::write_byte(out, next, 10)
 }
@@ -63,48 +52,7 @@ pub fn refusal_line(out: &mut [u8], at: usize, n: u64) -> usize
     requires { at + length (refusal_line n) ≤ length out.old }
     ensures { Written at (refusal_line n) out.old out.new result }
 {
-    let numbers = [n];
-    numbers_line(out, at, b"no", &numbers)
-}
-
-// `open`.
-pub fn open_line(out: &mut [u8], at: usize) -> usize
-    requires { at + length (report_lines opened) ≤ length out.old }
-    ensures { Written at (report_lines opened) out.old out.new result }
-{
-    word_line(out, at, b"open")
-}
-
-// `anchor same`.
-pub fn anchor_same_line(out: &mut [u8], at: usize) -> usize
-    requires { at + length (report_lines anchor_same) ≤ length out.old }
-    ensures { Written at (report_lines anchor_same) out.old out.new result }
-{
-    word_line(out, at, b"anchor same")
-}
-
-// `anchor fresh`.
-pub fn anchor_fresh_line(out: &mut [u8], at: usize) -> usize
-    requires { at + length (report_lines anchor_fresh) ≤ length out.old }
-    ensures { Written at (report_lines anchor_fresh) out.old out.new result }
-{
-    word_line(out, at, b"anchor fresh")
-}
-
-// `none`.
-pub fn none_line(out: &mut [u8], at: usize) -> usize
-    requires { at + length (report_lines no_value) ≤ length out.old }
-    ensures { Written at (report_lines no_value) out.old out.new result }
-{
-    word_line(out, at, b"none")
-}
-
-// `put`.
-pub fn put_line(out: &mut [u8], at: usize) -> usize
-    requires { at + length (report_lines stored) ≤ length out.old }
-    ensures { Written at (report_lines stored) out.old out.new result }
-{
-    word_line(out, at, b"put")
+    word_line(out, at, b"no", &[n])
 }
 
 // `value` and 64 hex digits.
@@ -117,24 +65,6 @@ pub fn value_line(out: &mut [u8], at: usize, v: U256) -> usize
     digits::write_byte(out, end, 10)
 }
 
-// `wait` and the slot's waiters.
-pub fn wait_line(out: &mut [u8], at: usize, waiters: u64) -> usize
-    requires { at + length (report_lines (waiting waiters)) ≤ length out.old }
-    ensures { Written at (report_lines (waiting waiters)) out.old out.new result }
-{
-    let numbers = [waiters];
-    numbers_line(out, at, b"wait", &numbers)
-}
-
-// `take` and the number of slots listed.
-pub fn take_line(out: &mut [u8], at: usize, count: u64) -> usize
-    requires { at + length (line (ascii "take") (decimals (count ∷ []))) ≤ length out.old }
-    ensures { Written at (line (ascii "take") (decimals (count ∷ []))) out.old out.new result }
-{
-    let numbers = [count];
-    numbers_line(out, at, b"take", &numbers)
-}
-
 // `slot` and 104 hex digits.
 pub fn slot_line(out: &mut [u8], at: usize, s: Slot) -> usize
     requires { at + length (line (ascii "slot") (slot_hex s ∷ [])) ≤ length out.old }
@@ -143,15 +73,6 @@ pub fn slot_line(out: &mut [u8], at: usize, s: Slot) -> usize
     let digits = digits::write_bytes(out, at, b"slot ");
     let end = digits::write_slot(out, digits, s);
     digits::write_byte(out, end, 10)
-}
-
-// `answer`, members, errors, woken.
-pub fn answer_line(out: &mut [u8], at: usize, members: u64, errors: u64, woken: u64) -> usize
-    requires { at + length (report_lines (answered members errors woken)) ≤ length out.old }
-    ensures { Written at (report_lines (answered members errors woken)) out.old out.new result }
-{
-    let numbers = [members, errors, woken];
-    numbers_line(out, at, b"answer", &numbers)
 }
 
 // Document 01's number of a lineage.
@@ -179,57 +100,38 @@ pub fn skip_number(k: BalSkip) -> u64
     }
 }
 
-// `current`, held, live.
-fn current_line(out: &mut [u8], at: usize, c: AdvanceCounts) -> usize
-    requires { at + length (line (ascii "current") (decimals (c.held ∷ c.live ∷ []))) ≤ length out.old }
-    ensures { Written at (line (ascii "current") (decimals (c.held ∷ c.live ∷ []))) out.old out.new result }
-{
-    let numbers = [c.held, c.live];
-    numbers_line(out, at, b"current", &numbers)
-}
-
-// `carried`, carried values, applied, overwritten, skipped, held, live, merged, left, dropped.
-fn carried_line(out: &mut [u8], at: usize, carried: u64, c: AdvanceCounts) -> usize
-    requires { at + length (line (ascii "carried") (decimals (carried_counts carried c))) ≤ length out.old }
-    ensures { Written at (line (ascii "carried") (decimals (carried_counts carried c))) out.old out.new result }
-{
-    let numbers = [
-        carried,
-        c.applied,
-        c.overwritten,
-        c.skipped,
-        c.held,
-        c.live,
-        c.merged,
-        c.left,
-        c.dropped,
-    ];
-    numbers_line(out, at, b"carried", &numbers)
-}
-
-// `cold`, lineage, skip, applied, overwritten, skipped, held, live.
-fn cold_line(out: &mut [u8], at: usize, l: u64, k: u64, c: AdvanceCounts) -> usize
-    requires { at + length (line (ascii "cold") (decimals (cold_counts l k c))) ≤ length out.old }
-    ensures { Written at (line (ascii "cold") (decimals (cold_counts l k c))) out.old out.new result }
-{
-    let numbers = [l, k, c.applied, c.overwritten, c.skipped, c.held, c.live];
-    numbers_line(out, at, b"cold", &numbers)
-}
-
 // The line of an advance.
 pub fn advance_line(out: &mut [u8], at: usize, outcome: CarryOutcome, c: AdvanceCounts) -> usize
     requires { at + length (counts_line outcome c) ≤ length out.old }
     ensures { Written at (counts_line outcome c) out.old out.new result }
 {
     match outcome {
-        CarryOutcome::AlreadyCurrent => current_line(out, at, c),
-        CarryOutcome::Carried(n) => carried_line(out, at, n, c),
-        CarryOutcome::Cold { lineage, bal } => cold_line(
+        CarryOutcome::AlreadyCurrent => word_line(out, at, b"current", &[c.held, c.live]),
+        CarryOutcome::Carried(n) => word_line(
             out,
             at,
-            lineage_number(lineage),
-            skip_number(bal),
-            c,
+            b"carried",
+            &[
+                n,
+                c.applied,
+                c.overwritten,
+                c.skipped,
+                c.held,
+                c.live,
+                c.merged,
+                c.left,
+                c.dropped,
+            ],
         ),
+        CarryOutcome::Cold { lineage, bal } => {
+            let l = lineage_number(lineage);
+            let k = skip_number(bal);
+            word_line(
+                out,
+                at,
+                b"cold",
+                &[l, k, c.applied, c.overwritten, c.skipped, c.held, c.live],
+            )
+        }
     }
 }

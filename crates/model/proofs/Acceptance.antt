@@ -1,8 +1,9 @@
 -- What acceptance says of a call: none of the refusals' conditions holds.
-use mathlib.Core.Path.{◌≡◌}
+use Rattle.std.specs.Prelude.{None}
+use mathlib.Core.Path.{◌≡◌, sym}
+use Rattle.std.proofs.lemmas.Option.{none-some}
 use mathlib.Core.Bool.{false}
 use mathlib.Core.List.{List, [], ◌∷◌}
-use mathlib.Core.Option.{none, some-ne-none}
 use Rattle.model.specs.Store.{Call, Memory}
 use Rattle.model.specs.Refusals.{Lent, Condition, conditions, first_that_holds, refusal, not_a_store, capacity_out_of_range, depth_out_of_range, skip_with_writes, skip_out_of_range, answer_names_twice, lent_too_short, nothing_installed, another_anchor, answered_not_taken, reads_exhausted, queue_full, over_capacity, output_short_of_queue}
 use Rattle.model.proofs.SlotLaws.{split}
@@ -12,12 +13,12 @@ abbrev NoneHolds : List Condition → Type 0
 NoneHolds [] = Unit {0}
 NoneHolds (k ∷ ks) = (k.holds ≡ false) × NoneHolds ks
 
-none_holds : (ks : List Condition) → first_that_holds ks ≡ none → NoneHolds ks
+none_holds : (ks : List Condition) → first_that_holds ks ≡ None → NoneHolds ks
 unfolding first_that_holds
 none_holds [] e = tt
 none_holds (k ∷ ks) e =
     split k.holds
-    (λ y. absurd (some-ne-none k.number (rw y at e)))
+    (λ y. absurd (none-some k.number (sym (rw y at e))))
     (λ y. (y, none_holds ks (rw y at e)))
 
 -- An accepted call, in the order of the refusals.
@@ -37,7 +38,7 @@ pub record Unrefused (m : Memory) (l : Lent) (c : Call) : Type 0 where
   pub within_capacity : over_capacity m c ≡ false
   pub output_holds_queue : output_short_of_queue m l c ≡ false
 
-pub unrefused : (m : Memory) (l : Lent) (c : Call) → refusal m l c ≡ none → Unrefused m l c
+pub unrefused : (m : Memory) (l : Lent) (c : Call) → refusal m l c ≡ None → Unrefused m l c
 unfolding refusal conditions
 unrefused m l c e =
     let (a, (b, (d, (f, (g, (h, (i, (j, (k, (n, (o, (p, (q, (r, z)))))))))))))) = none_holds (conditions m l c) e in

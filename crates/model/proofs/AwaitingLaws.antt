@@ -1,11 +1,11 @@
 -- The awaiting slots of the store, which rise, and those of the ledger, in no order: they agree slot by slot, and reads, takes and answers keep that.
+use Rattle.std.specs.Prelude.{None, Option, Some}
 use Prim.Native.Nat.{ℕ, suc, ◌+◌}
 use native.Mathlib.Omega.{arith}
 use native.Mathlib.Numerals.{add-one}
 use mathlib.Core.Path.{◌≡◌, refl, sym, ap, ◌∙◌}
 use mathlib.Core.Bool.{Bool, true, false, not, ◌||◌, cond}
 use mathlib.Core.List.{List, [], ◌∷◌, map}
-use mathlib.Core.Option.{Option, some, none}
 use lib.ListN.{length}
 use Rattle.model.specs.Slots.{Value, Slot, slot_eqb, slot_ltb, mem}
 use Rattle.model.specs.Reads.{Pending, Member, waiters_of, join, queued, take_queued, remove_pending, remove_all_pending, woken, member_slots, if_refused, refused_slots}
@@ -72,19 +72,19 @@ abbrev as_awaiting : Pending → Awaiting
 as_awaiting w = record { waiters = w.waiters; taken = w.taken }
 
 unfoldable pub pending_of : Slot → List Pending → Option Awaiting
-pending_of s [] = none
-pending_of s (w ∷ q) = cond (slot_eqb w.slot s) (some (as_awaiting w)) (pending_of s q)
+pending_of s [] = None
+pending_of s (w ∷ q) = cond (slot_eqb w.slot s) (Some (as_awaiting w)) (pending_of s q)
 
-pending_absent : (s : Slot) (q : List Pending) → mem s (pending_slots q) ≡ false → pending_of s q ≡ none
+pending_absent : (s : Slot) (q : List Pending) → mem s (pending_slots q) ≡ false → pending_of s q ≡ None
 unfolding mem pending_slots pending_of
 pending_absent s [] e = refl
 pending_absent s (w ∷ q) e = rw (or_false_left (slot_eqb w.slot s) (mem s (pending_slots q)) e) (pending_absent s q (or_false_right (slot_eqb w.slot s) (mem s (pending_slots q)) e))
 
-pending_before : (s : Slot) (q : List Pending) → Before s (pending_slots q) → pending_of s q ≡ none
+pending_before : (s : Slot) (q : List Pending) → Before s (pending_slots q) → pending_of s q ≡ None
 pending_before s q b = pending_absent s q (before_absent s (pending_slots q) b)
 
 -- An unserved read.
-pending_of_join : (s t : Slot) (q : List Pending) → Rises (pending_slots q) → pending_of t (join s q) ≡ cond (slot_eqb s t) (some (one_more_waiter (pending_of s q))) (pending_of t q)
+pending_of_join : (s t : Slot) (q : List Pending) → Rises (pending_slots q) → pending_of t (join s q) ≡ cond (slot_eqb s t) (Some (one_more_waiter (pending_of s q))) (pending_of t q)
 unfolding pending_slots pending_of join
 pending_of_join s t [] r = refl
 pending_of_join s t (w ∷ q) r =
@@ -116,8 +116,8 @@ rises_join s (w ∷ q) r =
 
 -- A take.
 abbrev marked : Option Awaiting → Option Awaiting
-marked none = none
-marked (some w) = some (record { waiters = w.waiters; taken = true })
+marked None = None
+marked (Some w) = Some (record { waiters = w.waiters; taken = true })
 
 pending_of_take : (t : Slot) (q : List Pending) → pending_of t (take_queued q) ≡ marked (pending_of t q)
 unfolding pending_of take_queued
@@ -130,13 +130,13 @@ slots_take [] = refl
 slots_take (w ∷ q) = rw (slots_take q)
 
 -- An answer.
-pending_of_remove : (s t : Slot) (q : List Pending) → Rises (pending_slots q) → pending_of t (remove_pending s q) ≡ cond (slot_eqb s t) none (pending_of t q)
+pending_of_remove : (s t : Slot) (q : List Pending) → Rises (pending_slots q) → pending_of t (remove_pending s q) ≡ cond (slot_eqb s t) None (pending_of t q)
 unfolding pending_slots pending_of remove_pending
 pending_of_remove s t [] r = split (slot_eqb s t) (λ y. rw y) (λ y. rw y)
 pending_of_remove s t (w ∷ q) r =
     split (slot_eqb w.slot s)
     (λ y. rw (y, ← slot_eqb_true w.slot s y) (split (slot_eqb w.slot t)
-    (λ z. let gone : pending_of t q ≡ none = rw (slot_eqb_true w.slot t z) at (pending_before w.slot q r.0) in rw z gone)
+    (λ z. let gone : pending_of t q ≡ None = rw (slot_eqb_true w.slot t z) at (pending_before w.slot q r.0) in rw z gone)
     (λ z. rw z)))
     (λ y. rw y (split (slot_eqb w.slot t)
     (λ z. rw (z, slot_eqb_sym s t, slot_eqb_apart w.slot t s z y))
@@ -157,7 +157,7 @@ unfolding remove_all_pending
 rises_remove_all [] q r = r
 rises_remove_all (s ∷ ss) q r = rises_remove_all ss (remove_pending s q) (rises_remove s q r)
 
-pending_of_remove_all : (ss : List Slot) (t : Slot) (q : List Pending) → Rises (pending_slots q) → pending_of t (remove_all_pending ss q) ≡ cond (mem t ss) none (pending_of t q)
+pending_of_remove_all : (ss : List Slot) (t : Slot) (q : List Pending) → Rises (pending_slots q) → pending_of t (remove_all_pending ss q) ≡ cond (mem t ss) None (pending_of t q)
 unfolding mem remove_all_pending
 pending_of_remove_all [] t q r = refl
 pending_of_remove_all (s ∷ ss) t q r =
@@ -168,8 +168,8 @@ pending_of_remove_all (s ∷ ss) t q r =
 
 -- Whether a slot awaits and is not taken.
 abbrev untaken : Option Awaiting → Bool
-untaken none = false
-untaken (some w) = not w.taken
+untaken None = false
+untaken (Some w) = not w.taken
 
 mem_queued : (t : Slot) (q : List Pending) → Rises (pending_slots q) → mem t (queued q) ≡ untaken (pending_of t q)
 unfolding mem pending_slots pending_of queued
@@ -242,8 +242,8 @@ keys_marked (x ∷ a) = rw (keys_marked a)
 -- Waiters --------------------------------------------------------------------------------------------
 
 abbrev waiters_in : Option Awaiting → ℕ
-waiters_in none = 0
-waiters_in (some w) = w.waiters
+waiters_in None = 0
+waiters_in (Some w) = w.waiters
 
 waiters_of_pending : (s : Slot) (q : List Pending) → waiters_of s q ≡ waiters_in (pending_of s q)
 unfolding waiters_of pending_of
@@ -258,7 +258,7 @@ waiters_among_cons s ss (x ∷ a) e d =
     split (slot_eqb s x.slot)
     (λ y. let p : s ≡ x.slot = slot_eqb_true s x.slot y in
     let f : mem x.slot ss ≡ false = rw p at e in
-    let g : lookup s a ≡ none = lookup_none s a (rw (← p) at d.0) in
+    let g : lookup s a ≡ None = lookup_none s a (rw (← p) at d.0) in
     rw (y, slot_eqb_sym x.slot s, y, f) (omega (arith, ih, rw g at ih)))
     (λ y. rw (y, slot_eqb_sym x.slot s, y) (omega (arith, ih)))
 
@@ -275,8 +275,8 @@ named_same [] = refl
 named_same (m ∷ ms) = rw (named_same ms)
 
 error_counted : (s : Slot) (o : Option Value) (l : List Slot) → length (if_refused o s l) ≡ count_error o + length l
-error_counted s none l = omega arith
-error_counted s (some v) l = omega arith
+error_counted s None l = omega arith
+error_counted s (Some v) l = omega arith
 
 pub errors_same : (ms : List Member) → length (refused_slots ms) ≡ member_errors ms
 unfolding refused_slots member_errors
@@ -309,8 +309,8 @@ module _ {q : List Pending} {a : AwaitingMap} (h : AwaitingAgree q a) where
   waiting_same s = rw (waiters_of_pending s q, h.same s) (one (lookup s a))
     where
       one : (o : Option Awaiting) → suc (waiters_in o) ≡ (one_more_waiter o).waiters
-      one none = refl
-      one (some w) = rw add-one
+      one None = refl
+      one (Some w) = rw add-one
 
   -- A take, and the slots that it lists.
   pub awaiting_take : AwaitingAgree (take_queued q) (all_marked a)

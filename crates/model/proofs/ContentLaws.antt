@@ -1,17 +1,18 @@
 -- Laws of contents: their words, and how a use, a write and a fold keep their rules. Over any content: no other file splits one.
+use Rattle.std.specs.Prelude.{None, Option, Some, is_some}
+use Rattle.std.proofs.lemmas.Option.{none-some, same_Some}
 use Prim.Native.Nat.{ℕ, suc, ◌+◌, ◌-◌, ◌^◌, ◌≤◌, ◌<◌, max}
 use native.Mathlib.Omega.{arith}
 use mathlib.Core.Path.{◌≡◌, refl, ap, subst}
 use mathlib.Core.Bool.{Bool, true, false, not, ◌&&◌, ◌||◌, cond}
 use mathlib.Core.List.{List, [], ◌∷◌, ◌++◌}
-use mathlib.Core.Option.{Option, some, none, none-ne-some, some-injective}
 use lib.Dec.{eqb, leb, lit<}
 use lib.ListN.{length, drop, get_or}
 use lib.Seq.{get_or-drop}
 use borrow.Author.Tests.{leb-true, le-leb, ltb-true, lt-ltb, eq-eqb}
 use Rattle.layout.specs.Layout.{record_width, slot_width}
 use Rattle.model.specs.Slots.{Value, LastUse, u256_words, words_eqb, fits_64, u256_fits, Retention, serves}
-use Rattle.model.specs.Contents.{Held, Nothing, HeldValue, Content, held_option, is_some, or_else, max_option, valued, use_of, own_value, has_value, last_use_of, value_of, valued_use, touch, value_fits, content_fits, at_most, content_ok, top_content_ok, value_words, content_words, read_content, content_right}
+use Rattle.model.specs.Contents.{Content, or_else, max_option, valued, use_of, own_value, has_value, last_use_of, value_of, valued_use, touch, value_fits, content_fits, at_most, content_ok, top_content_ok, value_words, content_words, read_content, content_right}
 use Rattle.model.specs.Layers.{resolved_through_policy}
 use Rattle.model.proofs.SlotLaws.{split, not_both, and_left, and_right, and_intro, and_true}
 use Rattle.model.proofs.WordLaws.{Fit, fit_cons, fit_append, fit_left, fit_zeros, fit_and, fit_u256}
@@ -24,15 +25,15 @@ pub content_wide : (c : Content) → length (content_words c) ≡ record_width -
 content_wide c = go (own_value c)
   where
     go : (o : Option Value) → length (use_of c ∷ (value_words o ++ (0 ∷ []))) ≡ record_width - slot_width
-    go none = refl
-    go (some v) = refl
+    go None = refl
+    go (Some v) = refl
 
 pub content_back : (c : Content) → read_content (content_words c) ≡ c
 content_back c = go c.used c.held
   where
-    go : (u : LastUse) (h : Held) → read_content (content_words (record { used = u; held = h })) ≡ record { used = u; held = h }
-    go u Nothing = refl
-    go u (HeldValue v) = refl
+    go : (u : LastUse) (h : Option Value) → read_content (content_words (record { used = u; held = h })) ≡ record { used = u; held = h }
+    go u None = refl
+    go u (Some v) = refl
 
 -- Whether words that are read have a value: their flag is not 0.
 pub has_value_read : (l : List ℕ) → has_value (read_content l) ≡ not (eqb (get_or l 1 0) 0)
@@ -52,18 +53,18 @@ pub fit_content : (c : Content) → content_fits c ≡ true → Fit (content_wor
 fit_content c e = fit_and (use_of c) _ e (λ d. fit_append (go (own_value c) d) (fit_zeros 1))
   where
     go : (o : Option Value) → value_fits o ≡ true → Fit (value_words o)
-    go none d = fit_zeros 5
-    go (some v) d = fit_cons (lit< tt) (fit_u256 v d)
+    go None d = fit_zeros 5
+    go (Some v) d = fit_cons (lit< tt) (fit_u256 v d)
 
 pub use_fits : (c : Content) → Fit (content_words c) → use_of c < 2 ^ 64
 use_fits c (fit_cons h p) = h
 
-pub own_value_fits : (c : Content) (v : Value) → own_value c ≡ some v → Fit (content_words c) → Fit (u256_words v)
+pub own_value_fits : (c : Content) (v : Value) → own_value c ≡ Some v → Fit (content_words c) → Fit (u256_words v)
 own_value_fits c v e (fit_cons h p) = go (own_value c) e p
   where
-    go : (o : Option Value) → o ≡ some v → Fit (value_words o ++ (0 ∷ [])) → Fit (u256_words v)
-    go none q p = absurd (none-ne-some v q)
-    go (some w) q (fit_cons h p) = subst (λ (x : Value). Fit (u256_words x)) (some-injective w v q) (fit_left (u256_words w) (0 ∷ []) p)
+    go : (o : Option Value) → o ≡ Some v → Fit (value_words o ++ (0 ∷ [])) → Fit (u256_words v)
+    go None q p = absurd (none-some v q)
+    go (Some w) q (fit_cons h p) = subst (λ (x : Value). Fit (u256_words x)) (same_Some w v q) (fit_left (u256_words w) (0 ∷ []) p)
 
 pub fit_valued : (u : LastUse) (v : Value) → u < 2 ^ 64 → Fit (u256_words v) → Fit (content_words (valued u v))
 fit_valued u v h p = fit_cons h (fit_cons (lit< tt) (fit_append p (fit_zeros 1)))
@@ -74,9 +75,9 @@ fit_valued u v h p = fit_cons h (fit_cons (lit< tt) (fit_append p (fit_zeros 1))
 pub content_fits_valued : (n u : ℕ) (v : Value) → fits_64 n ≡ true → u ≤ n → u256_fits v ≡ true → content_fits (valued u v) ≡ true
 content_fits_valued n u v e h b = and_intro _ _ (lt-ltb u (2 ^ 64) (omega (arith, ltb-true n (2 ^ 64) e))) b
 
-pub content_fits_touch : (n : ℕ) (t : Option Content) → fits_64 n ≡ true → ((c : Content) → t ≡ some c → content_fits c ≡ true) → content_fits (touch n t) ≡ true
-content_fits_touch n none e d = and_intro _ _ e refl
-content_fits_touch n (some c) e d = and_intro _ _ e (and_right (fits_64 (use_of c)) _ (d c refl))
+pub content_fits_touch : (n : ℕ) (t : Option Content) → fits_64 n ≡ true → ((c : Content) → t ≡ Some c → content_fits c ≡ true) → content_fits (touch n t) ≡ true
+content_fits_touch n None e d = and_intro _ _ e refl
+content_fits_touch n (Some c) e d = and_intro _ _ e (and_right (fits_64 (use_of c)) _ (d c refl))
 
 -- The rule over the layers below ----------------------------------------------------------------------
 
@@ -96,11 +97,11 @@ pub content_ok_parts : (n : ℕ) (h : Option Value) (f : Option LastUse) (c : Co
 content_ok_parts n h f c k = and_intro _ _ k.some_value (and_intro _ _ k.use_over (le-leb _ _ k.use_within))
 
 -- Its last use is the freshest of its own and those below.
-use_over_at_most : (f : Option LastUse) (u : LastUse) → at_most f u ≡ true → max_option (some u) f ≡ some u
-use_over_at_most none u e = refl
-use_over_at_most (some w) u e = let h : max u w ≡ u = omega (arith, leb-true w u e) in ap some h
+use_over_at_most : (f : Option LastUse) (u : LastUse) → at_most f u ≡ true → max_option (Some u) f ≡ Some u
+use_over_at_most None u e = refl
+use_over_at_most (Some w) u e = let h : max u w ≡ u = omega (arith, leb-true w u e) in ap Some h
 
-pub use_over_all : (n : ℕ) (h : Option Value) (f : Option LastUse) (c : Content) → content_ok n h f c ≡ true → max_option (some (use_of c)) f ≡ some (use_of c)
+pub use_over_all : (n : ℕ) (h : Option Value) (f : Option LastUse) (c : Content) → content_ok n h f c ≡ true → max_option (Some (use_of c)) f ≡ Some (use_of c)
 use_over_all n h f c e = use_over_at_most f (use_of c) (content_parts n h f c e).use_over
 
 -- One number later.
@@ -113,25 +114,25 @@ content_ok_later n c f h e =
 
 -- It has both a use and a value, or neither; `slot_fit` says whether its slot fits.
 pub data UseWithValue (n : ℕ) (slot_fit : Bool) : Option LastUse → Option Value → Type 0 where
-  neither : UseWithValue n slot_fit none none
-  both : (u : LastUse) (v : Value) → u ≤ n → slot_fit ≡ true → u256_fits v ≡ true → UseWithValue n slot_fit (some u) (some v)
+  neither : UseWithValue n slot_fit None None
+  both : (u : LastUse) (v : Value) → u ≤ n → slot_fit ≡ true → u256_fits v ≡ true → UseWithValue n slot_fit (Some u) (Some v)
 
 -- What holds of a slot's content in a layer, if it has a record there.
 abbrev pub Holds : (Content → Bool) → Option Content → Type 0
-Holds p t = (c : Content) → t ≡ some c → p c ≡ true
+Holds p t = (c : Content) → t ≡ Some c → p c ≡ true
 
 module _ {n : ℕ} {slot_fit : Bool} where
   -- A use and a value or none, over a slot's.
-  over_slot : (u : LastUse) (o : Option Value) {f : Option LastUse} {h : Option Value} → UseWithValue n slot_fit f h → u ≤ n → slot_fit ≡ true → (is_some o || is_some h) ≡ true → value_fits o ≡ true → UseWithValue n slot_fit (max_option (some u) f) (or_else o h)
-  over_slot u none neither p a e d = not_both e refl
-  over_slot u none (both w x r b g) p a e d = both (max u w) x (omega arith) b g
-  over_slot u (some v) neither p a e d = both u v p a d
-  over_slot u (some v) (both w x r b g) p a e d = both (max u w) v (omega arith) a d
+  over_slot : (u : LastUse) (o : Option Value) {f : Option LastUse} {h : Option Value} → UseWithValue n slot_fit f h → u ≤ n → slot_fit ≡ true → (is_some o || is_some h) ≡ true → value_fits o ≡ true → UseWithValue n slot_fit (max_option (Some u) f) (or_else o h)
+  over_slot u None neither p a e d = not_both e refl
+  over_slot u None (both w x r b g) p a e d = both (max u w) x (omega arith) b g
+  over_slot u (Some v) neither p a e d = both u v p a d
+  over_slot u (Some v) (both w x r b g) p a e d = both (max u w) v (omega arith) a d
 
   -- A right record, if there is one, over a slot's.
   pub use_with_value_at : (t : Option Content) {f : Option LastUse} {h : Option Value} → UseWithValue n slot_fit f h → Holds (content_ok n h f) t → Holds (λ c. slot_fit && content_fits c) t → UseWithValue n slot_fit (max_option (last_use_of t) f) (or_else (value_of t) h)
-  use_with_value_at none k e d = k
-  use_with_value_at (some c) {f} {h} k e d =
+  use_with_value_at None k e d = k
+  use_with_value_at (Some c) {f} {h} k e d =
       let p : ContentOk n h f c = content_parts n h f c (e c refl) in
       over_slot (use_of c) (own_value c) k p.use_within (and_left _ _ (d c refl)) p.some_value (and_right (fits_64 (use_of c)) _ (and_right slot_fit _ (d c refl)))
 
@@ -145,45 +146,45 @@ module _ {n : ℕ} {slot_fit : Bool} where
   content_ok_settle v {f} {h} k = content_ok_parts n h f (valued n v) (record { some_value = refl; use_over = at_most_now k; use_within = omega arith })
 
   -- A write over the base's freshest use, and one over a value that the top has.
-  pub content_ok_overwrite : (u : LastUse) (x : Value) {f : Option LastUse} {h : Option Value} → UseWithValue n slot_fit f h → f ≡ some u → content_ok n h f (valued u x) ≡ true
-  content_ok_overwrite u x neither q = absurd (none-ne-some u q)
-  content_ok_overwrite u x (both w v p a b) q = let z : w ≡ u = some-injective w u q in and_intro _ _ (le-leb w u (omega arith)) (le-leb u n (omega arith))
+  pub content_ok_overwrite : (u : LastUse) (x : Value) {f : Option LastUse} {h : Option Value} → UseWithValue n slot_fit f h → f ≡ Some u → content_ok n h f (valued u x) ≡ true
+  content_ok_overwrite u x neither q = absurd (none-some u q)
+  content_ok_overwrite u x (both w v p a b) q = let z : w ≡ u = same_Some w u q in and_intro _ _ (le-leb w u (omega arith)) (le-leb u n (omega arith))
 
   -- A use of a served slot.
   pub content_ok_touch : (R : Retention) (x : Value) (t : Option Content) {f : Option LastUse} {h : Option Value} → UseWithValue n slot_fit f h
       → Holds (content_ok n h f) t → Holds (top_content_ok R n f) t
-      → resolved_through_policy R n (max_option (last_use_of t) f) (or_else (value_of t) h) ≡ some x
+      → resolved_through_policy R n (max_option (last_use_of t) f) (or_else (value_of t) h) ≡ Some x
       → (content_ok n h f (touch n t) ≡ true) × (top_content_ok R n f (touch n t) ≡ true)
-  content_ok_touch R x none neither e d q = absurd (none-ne-some x q)
-  content_ok_touch R x none (both u v p a b) e d q = (
+  content_ok_touch R x None neither e d q = absurd (none-some x q)
+  content_ok_touch R x None (both u v p a b) e d q = (
     and_intro _ _ (le-leb u n p) (le-leb n n (omega arith)),
-    split (serves R u n) (λ y. y) (λ y. absurd (none-ne-some x (rw y at q))),
+    split (serves R u n) (λ y. y) (λ y. absurd (none-some x (rw y at q))),
   )
-  content_ok_touch R x (some c) {f} {h} k e d q = (
-    content_ok_parts n h f (touch n (some c)) (record { some_value = (content_parts n h f c (e c refl)).some_value; use_over = at_most_now k; use_within = omega arith }),
+  content_ok_touch R x (Some c) {f} {h} k e d q = (
+    content_ok_parts n h f (touch n (Some c)) (record { some_value = (content_parts n h f c (e c refl)).some_value; use_over = at_most_now k; use_within = omega arith }),
     d c refl,
   )
 
   -- A record of the top over a folded base.
   pub content_ok_compact : (R : Retention) (c : Content) {f : Option LastUse} {h : Option Value} → UseWithValue n slot_fit f h → (content_ok n h f c && top_content_ok R n f c) ≡ true
-      → content_ok n (or_else (value_of (compacted_content R n f h)) none) (max_option (last_use_of (compacted_content R n f h)) none) c ≡ true
-  content_ok_compact R c neither e = and_left (content_ok n none none c) _ e
+      → content_ok n (or_else (value_of (compacted_content R n f h)) None) (max_option (last_use_of (compacted_content R n f h)) None) c ≡ true
+  content_ok_compact R c neither e = and_left (content_ok n None None c) _ e
   content_ok_compact R c (both w v p a b) e =
-      let d : content_ok n (some v) (some w) c ≡ true = and_left _ _ e in
-      let k : ContentOk n (some v) (some w) c = content_parts n (some v) (some w) c d in
+      let d : content_ok n (Some v) (Some w) c ≡ true = and_left _ _ e in
+      let k : ContentOk n (Some v) (Some w) c = content_parts n (Some v) (Some w) c d in
       split (serves R w n)
       (λ y. rw y d)
-      (λ y. rw y (content_ok_parts n none none c (record { some_value = rw y at (and_right (content_ok n (some v) (some w) c) _ e); use_over = refl; use_within = k.use_within })))
+      (λ y. rw y (content_ok_parts n None None c (record { some_value = rw y at (and_right (content_ok n (Some v) (Some w) c) _ e); use_over = refl; use_within = k.use_within })))
 
 -- A write over the use of a value that the top has.
-pub content_ok_again : (n : ℕ) (h : Option Value) (f : Option LastUse) (t : Option Content) (u : LastUse) (x : Value) → valued_use t ≡ some u → Holds (content_ok n h f) t → content_ok n h f (valued u x) ≡ true
-content_ok_again n h f none u x q e = absurd (none-ne-some u q)
-content_ok_again n h f (some c) u x q e =
+pub content_ok_again : (n : ℕ) (h : Option Value) (f : Option LastUse) (t : Option Content) (u : LastUse) (x : Value) → valued_use t ≡ Some u → Holds (content_ok n h f) t → content_ok n h f (valued u x) ≡ true
+content_ok_again n h f None u x q e = absurd (none-some u q)
+content_ok_again n h f (Some c) u x q e =
     let k : ContentOk n h f c = content_parts n h f c (e c refl) in
     split (has_value c)
-    (λ y. let z : use_of c ≡ u = some-injective (use_of c) u (rw y at q) in
+    (λ y. let z : use_of c ≡ u = same_Some (use_of c) u (rw y at q) in
     rw (← z) (content_ok_parts n h f (valued (use_of c) x) (record { some_value = refl; use_over = k.use_over; use_within = k.use_within })))
-    (λ y. absurd (none-ne-some u (rw y at q)))
+    (λ y. absurd (none-some u (rw y at q)))
 
 -- Read words, and a use ---------------------------------------------------------------------------------
 
@@ -204,9 +205,9 @@ content_right_words u f a b c d z = split (eqb f 0) (λ e. simp (e, eqb_same, an
     and_assoc false y w = refl
 
 -- A content of a value, used at a number, is that value with that use.
-pub touch_valued : (u : LastUse) (c : Content) (v : Value) → own_value c ≡ some v → touch u (some c) ≡ valued u v
+pub touch_valued : (u : LastUse) (c : Content) (v : Value) → own_value c ≡ Some v → touch u (Some c) ≡ valued u v
 touch_valued u c v e = go c.held e
   where
-    go : (h : Held) → held_option h ≡ some v → record { used = u; held = h } ≡ valued u v
-    go Nothing q = absurd (none-ne-some v q)
-    go (HeldValue w) q = ap (valued u) (some-injective w v q)
+    go : (h : Option Value) → h ≡ Some v → record { used = u; held = h } ≡ valued u v
+    go None q = absurd (none-some v q)
+    go (Some w) q = ap (valued u) (same_Some w v q)

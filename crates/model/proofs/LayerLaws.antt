@@ -1,9 +1,9 @@
 -- What a search finds after an insert, a fold and a seal.
+use Rattle.std.specs.Prelude.{None, Option, Some}
 use Prim.Native.Nat.{ℕ}
 use mathlib.Core.Path.{◌≡◌, refl}
 use mathlib.Core.Bool.{Bool, true, false, ◌||◌, cond}
 use mathlib.Core.List.{List, [], ◌∷◌, ◌++◌}
-use mathlib.Core.Option.{Option, some, none}
 use Rattle.model.specs.Slots.{Value, LastUse, Slot, slot_eqb, slot_ltb, mem, Retention, serves}
 use Rattle.model.specs.Contents.{valued, or_else}
 use Rattle.model.specs.Layers.{LayerOf, Layer, find, insert, held_value, freshest_use, slots, all_slots}
@@ -12,7 +12,7 @@ use Rattle.model.proofs.SlotLaws.{split, or_false_left, or_false_right, slot_eqb
 use Rattle.model.proofs.SlotRelation.{compacted_content}
 
 -- A search after an insert: the new content for that slot, and as before for any other.
-pub find_insert : {A : Type 0} (s t : Slot) (c : A) (l : LayerOf A) → find t (insert s c l) ≡ cond (slot_eqb s t) (some c) (find t l)
+pub find_insert : {A : Type 0} (s t : Slot) (c : A) (l : LayerOf A) → find t (insert s c l) ≡ cond (slot_eqb s t) (Some c) (find t l)
 unfolding find insert
 find_insert s t c [] = refl
 find_insert s t c (r ∷ l) =
@@ -27,12 +27,12 @@ mem_append s [] b = refl
 mem_append s (t ∷ a) b = split (slot_eqb t s) (λ e. rw e) (λ e. rw e (mem_append s a b))
 
 -- A slot with no record in a layer, and in a chain.
-pub find_none : {A : Type 0} (s : Slot) (l : LayerOf A) → mem s (slots l) ≡ false → find s l ≡ none
+pub find_none : {A : Type 0} (s : Slot) (l : LayerOf A) → mem s (slots l) ≡ false → find s l ≡ None
 unfolding mem slots find
 find_none s [] e = refl
 find_none s (r ∷ l) e = rw (or_false_left (slot_eqb r.slot s) (mem s (slots l)) e) (find_none s l (or_false_right (slot_eqb r.slot s) (mem s (slots l)) e))
 
-pub freshest_use_none : (s : Slot) (b : List Layer) → mem s (all_slots b) ≡ false → freshest_use s b ≡ none
+pub freshest_use_none : (s : Slot) (b : List Layer) → mem s (all_slots b) ≡ false → freshest_use s b ≡ None
 unfolding all_slots freshest_use
 freshest_use_none s [] e = refl
 freshest_use_none s (l ∷ ls) e =
@@ -43,17 +43,17 @@ freshest_use_none s (l ∷ ls) e =
 
 -- A search after one slot's part of a fold, and after those of a list of slots.
 find_compact_slot : (R : Retention) (n : ℕ) (t s : Slot) (f : Option LastUse) (h : Option Value) (l : Layer) → find s (compact_slot R n t f h l) ≡ cond (slot_eqb t s) (or_else (compacted_content R n f h) (find s l)) (find s l)
-find_compact_slot R n t s none h l = split (slot_eqb t s) (λ e. rw e) (λ e. rw e)
-find_compact_slot R n t s (some u) none l = split (slot_eqb t s) (λ e. rw e) (λ e. rw e)
-find_compact_slot R n t s (some u) (some v) l =
+find_compact_slot R n t s None h l = split (slot_eqb t s) (λ e. rw e) (λ e. rw e)
+find_compact_slot R n t s (Some u) None l = split (slot_eqb t s) (λ e. rw e) (λ e. rw e)
+find_compact_slot R n t s (Some u) (Some v) l =
     split (serves R u n) (λ e. rw (e, find_insert t s (valued u v) l)) (λ e. rw e (split (slot_eqb t s) (λ y. rw y) (λ y. rw y)))
 
-or_else_same : {A : Type 0} (c : Option A) (b : Bool) → or_else c (cond b c none) ≡ c
-or_else_same none true = refl
-or_else_same none false = refl
-or_else_same (some c) b = refl
+or_else_same : {A : Type 0} (c : Option A) (b : Bool) → or_else c (cond b c None) ≡ c
+or_else_same None true = refl
+or_else_same None false = refl
+or_else_same (Some c) b = refl
 
-find_compact_slots : (R : Retention) (n : ℕ) (b : List Layer) (s : Slot) (ss : List Slot) → find s (compact_slots R n b ss) ≡ cond (mem s ss) (compacted_content R n (freshest_use s b) (held_value s b)) none
+find_compact_slots : (R : Retention) (n : ℕ) (b : List Layer) (s : Slot) (ss : List Slot) → find s (compact_slots R n b ss) ≡ cond (mem s ss) (compacted_content R n (freshest_use s b) (held_value s b)) None
 unfolding compact_slots mem find
 find_compact_slots R n b s [] = refl
 find_compact_slots R n b s (t ∷ ss) =

@@ -1,8 +1,8 @@
 -- Laws of the ledger's maps from slots.
+use Rattle.std.specs.Prelude.{None, Some}
 use mathlib.Core.Path.{◌≡◌, refl, ◌∙◌}
 use mathlib.Core.Bool.{false, cond}
 use mathlib.Core.List.{List, [], ◌∷◌}
-use mathlib.Core.Option.{some, none}
 use Rattle.model.specs.Slots.{Slot, slot_eqb, mem}
 use Rattle.model.specs.Reads.{has_duplicate}
 use Rattle.model.specs.FlatLedger.{SlotMap, lookup, without, set}
@@ -29,13 +29,13 @@ mem_one s t = split (slot_eqb s t) (λ y. rw y) (λ y. rw y)
 
 module _ {A : Type 0} where
   -- A slot without an entry.
-  pub lookup_none : (s : Slot) (m : SlotMap A) → mem s (keys m) ≡ false → lookup s m ≡ none
+  pub lookup_none : (s : Slot) (m : SlotMap A) → mem s (keys m) ≡ false → lookup s m ≡ None
   unfolding mem keys lookup
   lookup_none s [] e = refl
   lookup_none s (x ∷ m) e = rw (or_false_left (slot_eqb x.slot s) (mem s (keys m)) e) (lookup_none s m (or_false_right (slot_eqb x.slot s) (mem s (keys m)) e))
 
   -- What a map without some slots has of a slot.
-  pub lookup_without : (ss : List Slot) (s : Slot) (m : SlotMap A) → lookup s (without ss m) ≡ cond (mem s ss) none (lookup s m)
+  pub lookup_without : (ss : List Slot) (s : Slot) (m : SlotMap A) → lookup s (without ss m) ≡ cond (mem s ss) None (lookup s m)
   unfolding lookup without
   lookup_without ss s [] = split (mem s ss) (λ y. rw y) (λ y. rw y)
   lookup_without ss s (e ∷ m) =
@@ -44,7 +44,7 @@ module _ {A : Type 0} where
       (λ y. rw y (split (mem e.slot ss) (λ z. rw z (lookup_without ss s m)) (λ z. rw (z, y) (lookup_without ss s m))))
 
   -- What a map with a slot set has of a slot.
-  pub lookup_set : (s t : Slot) (x : A) (m : SlotMap A) → lookup t (set s x m) ≡ cond (slot_eqb s t) (some x) (lookup t m)
+  pub lookup_set : (s t : Slot) (x : A) (m : SlotMap A) → lookup t (set s x m) ≡ cond (slot_eqb s t) (Some x) (lookup t m)
   unfolding lookup
   lookup_set s t x m = split (slot_eqb s t) (λ y. rw y) (λ y. rw y (lookup_without (s ∷ []) t m ∙ rw (mem_one s t, y)))
 

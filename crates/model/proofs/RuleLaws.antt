@@ -1,13 +1,13 @@
 -- The ledger's rules for retention, the link, skips and relevance agree with the store's.
+use Rattle.std.specs.Prelude.{None, Option, Some}
 use Prim.Native.Nat.{ℕ, zero, suc, ◌+◌, ◌-◌, ◌^◌}
 use mathlib.Core.Path.{◌≡◌, refl, sym, ap, ◌∙◌}
 use mathlib.Core.Bool.{Bool, true, false, not, ◌&&◌, cond}
 use mathlib.Core.List.{List, [], ◌∷◌}
-use mathlib.Core.Option.{Option, some, none}
 use native.Mathlib.Omega.{arith}
 use lib.Dec.{eqb, leb, ltb}
 use borrow.Author.Tests.{eqb-true, eq-eqb, ne_eqb, ltb-true, lt-ltb, leb-true, le-leb}
-use Rattle.model.specs.Slots.{Address, address_eqb, Hash, u256_eqb, Slot, BlockHash, Unknown, Known, hash_eqb, ReadAnchor, Retention, Unbounded, IdleBlocks, serves}
+use Rattle.model.specs.Slots.{Address, address_eqb, Hash, u256_eqb, Slot, hash_eqb, ReadAnchor, Retention, Unbounded, IdleBlocks, serves}
 use Rattle.model.specs.Advance.{Lineage, Linked, NoParent, NotConsecutive, ParentHashUnknown, ParentHashMismatch, BalSkip, skip_of, lineage_number, skip_number, classify_hash, classify_link, carries, relevant}
 use Rattle.model.specs.FlatLedger.{in_date, ledger_link, ledger_skip, keeps_map, times_listed, ledger_relevant}
 use Rattle.model.proofs.SlotLaws.{split, not_both, and_left, and_right, u256_eqb_true}
@@ -36,22 +36,22 @@ consecutive_same p c =
     let b = ltb-true c (2 ^ 64) (and_right (eqb c (p + 1)) (ltb c (2 ^ 64)) y) in
     rw (eq-eqb c (suc p) (omega arith), lt-ltb p (2 ^ 64 - 1) (omega arith)))
 
-hash_same : (k : BlockHash) (h : Hash) → classify_hash k h ≡ cond (hash_eqb k Unknown) ParentHashUnknown (cond (not (hash_eqb k (Known h))) ParentHashMismatch Linked)
-hash_same Unknown h = refl
-hash_same (Known k) h = split (u256_eqb k h) (λ y. rw y) (λ y. rw y)
+hash_same : (k : Option Hash) (h : Hash) → classify_hash k h ≡ cond (hash_eqb k None) ParentHashUnknown (cond (not (hash_eqb k (Some h))) ParentHashMismatch Linked)
+hash_same None h = refl
+hash_same (Some k) h = split (u256_eqb k h) (λ y. rw y) (λ y. rw y)
 
 pub link_same : (p : Option ReadAnchor) (child : ReadAnchor) (h : Hash) → classify_link p child h ≡ ledger_link p child h
-link_same none child h = refl
-link_same (some p) child h =
+link_same None child h = refl
+link_same (Some p) child h =
     rw (consecutive_same p.number child.number)
     (split (eqb child.number (p.number + 1) && ltb child.number (2 ^ 64)) (λ y. rw y (hash_same p.hash h)) (λ y. rw y))
 
 -- A linked child: its number is one above the parent's, and the parent has the hash that it names.
-linked_hash : (k : BlockHash) (h : Hash) → lineage_number (classify_hash k h) ≡ 0 → k ≡ Known h
-linked_hash Unknown h e = absurd (omega arith)
-linked_hash (Known k) h e = split (u256_eqb k h) (λ y. ap Known (u256_eqb_true k h y)) (λ y. let z : 4 ≡ 0 = rw y at e in absurd (omega arith))
+linked_hash : (k : Option Hash) (h : Hash) → lineage_number (classify_hash k h) ≡ 0 → k ≡ Some h
+linked_hash None h e = absurd (omega arith)
+linked_hash (Some k) h e = split (u256_eqb k h) (λ y. ap Some (u256_eqb_true k h y)) (λ y. let z : 4 ≡ 0 = rw y at e in absurd (omega arith))
 
-pub linked : (p child : ReadAnchor) (h : Hash) → lineage_number (classify_link (some p) child h) ≡ 0 → (child.number ≡ suc p.number) × (p.hash ≡ Known h)
+pub linked : (p child : ReadAnchor) (h : Hash) → lineage_number (classify_link (Some p) child h) ≡ 0 → (child.number ≡ suc p.number) × (p.hash ≡ Some h)
 linked p child h e =
     let a : Bool = ltb p.number (2 ^ 64 - 1) in
     let b : Bool = eqb child.number (suc p.number) in
@@ -88,7 +88,7 @@ carries_same ParentHashMismatch k = refl
 
 -- When the ledger keeps its map: the child's number is one above the anchor's, the anchor has the hash that it names, and the list was read.
 pub record KeepsMap (p child : ReadAnchor) (h : Hash) (k : ℕ) : Type 0 where
-  pub link : (child.number ≡ suc p.number) × (p.hash ≡ Known h)
+  pub link : (child.number ≡ suc p.number) × (p.hash ≡ Some h)
   pub unskipped : k ≡ 0
 
 linked_only : (l : Lineage) (k : ℕ) → keeps_map l k ≡ true → (l ≡ Linked) × (k ≡ 0)
@@ -98,10 +98,10 @@ linked_only NotConsecutive k e = not_both e refl
 linked_only ParentHashUnknown k e = not_both e refl
 linked_only ParentHashMismatch k e = not_both e refl
 
-pub keeps_map_when : (p child : ReadAnchor) (h : Hash) (k : ℕ) → keeps_map (ledger_link (some p) child h) k ≡ true → KeepsMap p child h k
+pub keeps_map_when : (p child : ReadAnchor) (h : Hash) (k : ℕ) → keeps_map (ledger_link (Some p) child h) k ≡ true → KeepsMap p child h k
 keeps_map_when p child h k e =
-    let z : (ledger_link (some p) child h ≡ Linked) × (k ≡ 0) = linked_only (ledger_link (some p) child h) k e in
-    record { link = linked p child h (ap lineage_number (link_same (some p) child h ∙ z.0)); unskipped = z.1 }
+    let z : (ledger_link (Some p) child h ≡ Linked) × (k ≡ 0) = linked_only (ledger_link (Some p) child h) k e in
+    record { link = linked p child h (ap lineage_number (link_same (Some p) child h ∙ z.0)); unskipped = z.1 }
 
 -- An address is on a list if the list has it at least once.
 pub relevant_same : (relevance : List Address) (s : Slot) → relevant relevance s.address ≡ ledger_relevant relevance s

@@ -1,8 +1,8 @@
 -- Demand 3: over any list of calls the store serves and answers as the ledger does, and serves what is true.
+use Rattle.std.specs.Prelude.{None, Option, Some}
 use mathlib.Core.Path.{◌≡◌, refl, sym, ◌∙◌}
 use mathlib.Core.Bool.{false}
 use mathlib.Core.List.{List, [], ◌∷◌, map}
-use mathlib.Core.Option.{Option, some, none}
 use Prim.Native.Nat.{ℕ, max}
 use Rattle.model.specs.Slots.{Slot}
 use Rattle.model.specs.Store.{Config, Generation, Memory, Call, open_store, on_store, Accepted, accept}
@@ -17,13 +17,13 @@ use Rattle.model.proofs.TrueSteps.{TrueLedgerGeneration, true_perform_some, true
 
 -- The lent bytes and the ledger: no store and no ledger, or a store and a ledger of the same retention with related states.
 pub data MemoryRelation : Memory → Option Ledger → Type 0 where
-  no_store : MemoryRelation none none
-  both_open : (cfg : Config) {st : Option Generation} {ls : Option LedgerGeneration} → StateRelation cfg.retention st ls → MemoryRelation (some (record { config = cfg; installed = st })) (some (record { retention = cfg.retention; installed = ls }))
+  no_store : MemoryRelation None None
+  both_open : (cfg : Config) {st : Option Generation} {ls : Option LedgerGeneration} → StateRelation cfg.retention st ls → MemoryRelation (Some (record { config = cfg; installed = st })) (Some (record { retention = cfg.retention; installed = ls }))
 
 -- Every value that the ledger serves is the true one.
 abbrev pub TrueLedger : Truth → Option Ledger → Type 0
-TrueLedger truth none = Unit {0}
-TrueLedger truth (some l) = TrueLedgerGeneration truth l.retention l.installed
+TrueLedger truth None = Unit {0}
+TrueLedger truth (Some l) = TrueLedgerGeneration truth l.retention l.installed
 
 -- One call ---------------------------------------------------------------------------------------------
 
@@ -42,7 +42,7 @@ accept_agrees (both_open cfg s) (on_store c) d =
     record { relation = both_open cfg z.relation; report = z.report }
 
 -- An accepted call whose input is true keeps the ledger true.
-pub true_step : (truth : Truth) {m : Memory} {l : Option Ledger} → MemoryRelation m l → TrueLedger truth l → (lent : Lent) (c : Call) → refusal m lent c ≡ none → TrueCall truth c → TrueLedger truth (ledger_step l c).ledger
+pub true_step : (truth : Truth) {m : Memory} {l : Option Ledger} → MemoryRelation m l → TrueLedger truth l → (lent : Lent) (c : Call) → refusal m lent c ≡ None → TrueCall truth c → TrueLedger truth (ledger_step l c).ledger
 unfolding ledger_step another_anchor
 true_step truth r t lent (open_store capacity depth R) e q = tt
 true_step truth no_store t lent (on_store c) e q = tt
@@ -65,10 +65,10 @@ run_agrees_after : (m : Memory) (l : Option Ledger) (c : LentCall) (cs : List Le
     → ((m' : Memory) (l' : Option Ledger) → MemoryRelation m' l' → RunAgrees (trace m' cs) (final m' cs) l' (calls_of cs))
     → RunAgrees ((conclude o m (accept m c.call)).answer ∷ trace (conclude o m (accept m c.call)).memory cs) (final (conclude o m (accept m c.call)).memory cs) l (c.call ∷ calls_of cs)
 unfolding ledger_trace ledger_final
-run_agrees_after m l c cs (some n) e r ih =
+run_agrees_after m l c cs (Some n) e r ih =
     let z = ih m l r in
     record { same_answers = cc z.same_answers; relation = z.relation; keeps_true = z.keeps_true }
-run_agrees_after m l c cs none e r ih =
+run_agrees_after m l c cs None e r ih =
     let a = accept_agrees r c.call (unrefused m c.lent c.call e).answer_names_once in
     let z = ih (accept m c.call).memory (ledger_step l c.call).ledger a.relation in
     record {
@@ -98,6 +98,6 @@ true_memory truth (both_open cfg (both_installed g m a h)) t = λ s v e. t s v (
 pub demand_3 : Demand3
 demand_3 =
     record {
-      first = λ cs truth q. let z = run_agrees cs none none no_store in true_memory truth z.relation (z.keeps_true truth tt q);
-      second = λ cs. let z = run_agrees cs none none no_store in record { answers = z.same_answers; serves = serves_same z.relation };
+      first = λ cs truth q. let z = run_agrees cs None None no_store in true_memory truth z.relation (z.keeps_true truth tt q);
+      second = λ cs. let z = run_agrees cs None None no_store in record { answers = z.same_answers; serves = serves_same z.relation };
     }

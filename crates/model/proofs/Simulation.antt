@@ -1,11 +1,11 @@
 -- The relation between the state of the store and that of the ledger; inserts, writes, answers, folds and seals keep it.
+use Rattle.std.specs.Prelude.{None, Option, Some, is_some}
 use Prim.Native.Nat.{ℕ, suc}
 use mathlib.Core.Path.{◌≡◌, refl, sym, ap, ◌∙◌, fun_ext, subst}
 use mathlib.Core.Bool.{Bool, true, false}
 use mathlib.Core.List.{List, [], ◌∷◌, ◌++◌}
-use mathlib.Core.Option.{Option, some, none}
 use Rattle.model.specs.Slots.{Address, Value, LastUse, Slot, slot_eqb, mem, Retention}
-use Rattle.model.specs.Contents.{Content, valued, valued_use, is_some}
+use Rattle.model.specs.Contents.{Content, valued, valued_use}
 use Rattle.model.specs.Layers.{Layer, find, insert, held_value, freshest_use, all_slots, count_distinct, live_count}
 use Rattle.model.specs.Advance.{Write, WriteKind, overwrite, new, skip, relevant, count_write, final_write_kind, seed_final_writes, apply_write, compact, compact_if, seal, void_base}
 use Rattle.model.specs.Reads.{Member, settle_outcome, settle_members}
@@ -32,15 +32,15 @@ pub record GenerationAgree (R : Retention) (g : Generation) (m : LedgerMap) (a :
 
 -- What is installed in the store and in the ledger: nothing in both, or generations that agree at the same anchor.
 pub data StateRelation (R : Retention) : Option Generation → Option LedgerGeneration → Type 0 where
-  both_empty : StateRelation R none none
-  both_installed : (g : Generation) (m : LedgerMap) (a : AwaitingMap) → GenerationAgree R g m a → StateRelation R (some g) (some (ledger_generation g.anchor m a))
+  both_empty : StateRelation R None None
+  both_installed : (g : Generation) (m : LedgerMap) (a : AwaitingMap) → GenerationAgree R g m a → StateRelation R (Some g) (Some (ledger_generation g.anchor m a))
 
 pub agree_empty : (R : Retention) (n : ℕ) → Agree R n [] void_base []
 unfolding find freshest_use held_value lookup
 agree_empty R n s = absent
 
 -- A slot's record and its entry, both set.
-pub agree_insert : (R : Retention) (n : ℕ) (l : Layer) (b : List Layer) (m : LedgerMap) (s : Slot) (c : Content) (u : LastUse) (v : Value) → Agree R n l b m → SlotRelation R n (some c) (freshest_use s b) (held_value s b) (some (kept u v)) → Agree R n (insert s c l) b (set s (kept u v) m)
+pub agree_insert : (R : Retention) (n : ℕ) (l : Layer) (b : List Layer) (m : LedgerMap) (s : Slot) (c : Content) (u : LastUse) (v : Value) → Agree R n l b m → SlotRelation R n (Some c) (freshest_use s b) (held_value s b) (Some (kept u v)) → Agree R n (insert s c l) b (set s (kept u v) m)
 agree_insert R n l b m s c u v h r t =
     rw (find_insert s t c l, lookup_set s t (kept u v) m)
     (split (slot_eqb s t) (λ e. rw e (rw (← slot_eqb_true s t e) r)) (λ e. rw e (h t)))
@@ -106,8 +106,8 @@ agree_settle_members R n b (x ∷ xs) l m h =
     agree_settle_members R n b xs (settle_outcome n x.slot x.outcome l) (settle_value n x.slot x.outcome m) (one x.slot x.outcome)
   where
     one : (s : Slot) (r : Option Value) → Agree R n (settle_outcome n s r l) b (settle_value n s r m)
-    one s none = h
-    one s (some v) = agree_insert R n l b m s (valued n v) n v h (relation_settle v (h s))
+    one s None = h
+    one s (Some v) = agree_insert R n l b m s (valued n v) n v h (relation_settle v (h s))
 
 pub distinct_settle : (n : ℕ) (ms : List Member) (m : LedgerMap) → Distinct (keys m) → Distinct (keys (settle_values n ms m))
 unfolding settle_values
@@ -115,8 +115,8 @@ distinct_settle n [] m d = d
 distinct_settle n (x ∷ xs) m d = distinct_settle n xs (settle_value n x.slot x.outcome m) (one x.slot x.outcome)
   where
     one : (s : Slot) (r : Option Value) → Distinct (keys (settle_value n s r m))
-    one s none = d
-    one s (some v) = distinct_set s (kept n v) m d
+    one s None = d
+    one s (Some v) = distinct_set s (kept n v) m d
 
 -- A look, and the number of slots served.
 pub resolved_same : (R : Retention) (g : Generation) (m : LedgerMap) (a : AwaitingMap) → Agree R g.anchor.number g.top g.base m → (s : Slot) → resolved R g s ≡ ledger_resolved R (ledger_generation g.anchor m a) s
@@ -144,7 +144,7 @@ live_count_same R g m h d =
     ap (λ (q : Slot → Bool). count_distinct q (all_slots (chain g))) (fun_ext (λ s. ap is_some (resolved_same R g m [] h s)))
     ∙ count_same (is_served R n m) (all_slots (chain g)) (keys m)
     (λ s e. split (mem s (all_slots (chain g))) (λ y. y) (λ y.
-    let z : resolved R g s ≡ none = rw (freshest_use_none s (chain g) y) in
+    let z : resolved R g s ≡ None = rw (freshest_use_none s (chain g) y) in
     not_both e (ap is_some (sym (resolved_same R g m [] h s) ∙ z))))
     (λ s e. split (mem s (keys m)) (λ y. y) (λ y. not_both e (rw (lookup_none s m y))))
     ∙ count_entries R n m d

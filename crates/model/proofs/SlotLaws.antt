@@ -1,4 +1,5 @@
 -- Laws of Bools, and of the tests of words, values, slots and anchors.
+use Rattle.std.specs.Prelude.{None, Option, Some}
 use Prim.Native.Nat.{ℕ, ◌+◌, ◌≤◌}
 use mathlib.Core.Path.{◌≡◌, refl, sym, ap, ◌∙◌}
 use mathlib.Core.Bool.{Bool, true, false, ◌&&◌, ◌||◌, true≢false}
@@ -7,7 +8,7 @@ use native.Mathlib.Omega.{arith}
 use lib.Dec.{eqb, ltb}
 use lib.ListN.{length, get_or}
 use borrow.Author.Tests.{eqb-true, eqb-false, eq-eqb, ltb-true, ltb-false, lt-ltb, le-ltb}
-use Rattle.model.specs.Slots.{U256, u256_words, u256_eqb, Slot, slot_words, slot_eqb, slot_ltb, words_eqb, words_ltb, BlockHash, Unknown, Known, hash_eqb, ReadAnchor, anchor_eqb}
+use Rattle.model.specs.Slots.{U256, u256_words, u256_eqb, Hash, Slot, slot_words, slot_eqb, slot_ltb, words_eqb, words_ltb, hash_eqb, ReadAnchor, anchor_eqb}
 
 -- Bools ----------------------------------------------------------------------------------------------
 
@@ -168,11 +169,11 @@ slot_ltb_trans r s t p q = words_ltb_trans (slot_words r) (slot_words s) (slot_w
 pub slot_ltb_eqb : (s t : Slot) → slot_ltb s t ≡ true → slot_eqb s t ≡ false
 slot_ltb_eqb s t l = split (slot_eqb s t) (λ e. not_both (rw (slot_eqb_true s t e) at l) (slot_ltb_irrefl t)) (λ e. e)
 
-pub hash_eqb_true : (h k : BlockHash) → hash_eqb h k ≡ true → h ≡ k
-hash_eqb_true Unknown Unknown e = refl
-hash_eqb_true Unknown (Known k) e = not_both e refl
-hash_eqb_true (Known h) Unknown e = not_both e refl
-hash_eqb_true (Known h) (Known k) e = ap Known (u256_eqb_true h k e)
+pub hash_eqb_true : (h k : Option Hash) → hash_eqb h k ≡ true → h ≡ k
+hash_eqb_true None None e = refl
+hash_eqb_true None (Some k) e = not_both e refl
+hash_eqb_true (Some h) None e = not_both e refl
+hash_eqb_true (Some h) (Some k) e = ap Some (u256_eqb_true h k e)
 
 pub anchor_eqb_true : (a b : ReadAnchor) → anchor_eqb a b ≡ true → a ≡ b
 unfolding anchor_eqb

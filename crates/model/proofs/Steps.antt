@@ -1,9 +1,9 @@
 -- Each call keeps the relation between the store and the ledger, and answers alike.
+use Rattle.std.specs.Prelude.{None, Option, Some}
 use Prim.Native.Nat.{ℕ, suc}
 use mathlib.Core.Path.{◌≡◌, refl, sym, ap, ◌∙◌, subst}
 use mathlib.Core.Bool.{Bool, false}
 use mathlib.Core.List.{List, []}
-use mathlib.Core.Option.{Option, some, none}
 use lib.Dec.{ltb}
 use lib.ListN.{length}
 use Rattle.model.specs.Slots.{Value, Hash, Slot, ReadAnchor, anchor_eqb, Retention}
@@ -64,12 +64,12 @@ agree_carry cfg g m child p h d e =
     agree_after_writes cfg child (seal g.top b) m (Carried _) (compact_if due R n g.base).report p k d
 
 agree_carry_or_cold : (cfg : Config) (g : Generation) (m : LedgerMap) (child : ReadAnchor) (h : Hash) (p : Prepared) → Agree cfg.retention g.anchor.number g.top g.base m → Distinct (keys m)
-    → PerformAgrees cfg.retention (carry_or_cold cfg g child (classify_link (some g.anchor) child h) p) (ledger_carry_or_cold cfg.retention m child (ledger_link (some g.anchor) child h) p)
+    → PerformAgrees cfg.retention (carry_or_cold cfg g child (classify_link (Some g.anchor) child h) p) (ledger_carry_or_cold cfg.retention m child (ledger_link (Some g.anchor) child h) p)
 agree_carry_or_cold cfg g m child h p a d =
     let k : ℕ = p.skip in
-    let l : Lineage = classify_link (some g.anchor) child h in
+    let l : Lineage = classify_link (Some g.anchor) child h in
     let same : carries l (skip_of k) ≡ keeps_map l k = ap (carries l) (skip_same k) ∙ carries_same l k in
-    rw (← link_same (some g.anchor) child h, ← skip_same k, ← same)
+    rw (← link_same (Some g.anchor) child h, ← skip_same k, ← same)
     (split (carries l (skip_of k))
     (λ e. rw e (agree_carry cfg g m child p a d (linked g.anchor child h (carries_both l (skip_of k) e).0).0))
     (λ e. rw e (agree_cold_advance cfg child l p)))
@@ -78,14 +78,14 @@ agree_carry_or_cold cfg g m child h p a d =
 
 -- A look answers the same.
 agree_value_report : (o : Option Value) → compared_report (value_report o) ≡ ledger_look o
-agree_value_report none = refl
-agree_value_report (some v) = refl
+agree_value_report None = refl
+agree_value_report (Some v) = refl
 
 -- With nothing installed, and then with a generation.
-agree_none : (cfg : Config) (c : StoreCall) → PerformAgrees cfg.retention (perform cfg none c) (ledger_perform cfg.retention none c)
+agree_none : (cfg : Config) (c : StoreCall) → PerformAgrees cfg.retention (perform cfg None c) (ledger_perform cfg.retention None c)
 unfolding perform ledger_perform
 agree_none cfg (install a) = record { relation = both_installed (new_generation a void_base []) [] [] (agree_fresh cfg.retention a); report = refl }
-agree_none cfg (advance child h p) = rw (← skip_same p.skip) (agree_cold_advance cfg child (classify_link none child h) p)
+agree_none cfg (advance child h p) = rw (← skip_same p.skip) (agree_cold_advance cfg child (classify_link None child h) p)
 agree_none cfg (at_anchor a c) = record { relation = both_empty; report = refl }
 
 module _ (cfg : Config) (g : Generation) (m : LedgerMap) (a : AwaitingMap) (h : GenerationAgree cfg.retention g m a) where
@@ -102,7 +102,7 @@ module _ (cfg : Config) (g : Generation) (m : LedgerMap) (a : AwaitingMap) (h : 
   same_look s = resolved_same R g m a h.records s
 
   -- A use of a slot that is served.
-  agree_touch : (s : Slot) (v : Value) → ledger_resolved R L s ≡ some v → Agree R n (touched_top g s) g.base (set s (kept n v) m)
+  agree_touch : (s : Slot) (v : Value) → ledger_resolved R L s ≡ Some v → Agree R n (touched_top g s) g.base (set s (kept n v) m)
   agree_touch s v e =
       agree_insert R n g.top g.base m s (touch n (find s g.top)) n v h.records (relation_touch v (h.records s) e)
 
@@ -110,21 +110,21 @@ module _ (cfg : Config) (g : Generation) (m : LedgerMap) (a : AwaitingMap) (h : 
   one_entry_set s v = distinct_set s (kept n v) m h.one_entry
 
   agree_get : (s : Slot) (o : Option Value) → ledger_resolved R L s ≡ o → PerformAgrees R (perform_get g s o) (ledger_get L s o)
-  agree_get s none e = record { relation = both_installed g m a h; report = refl }
-  agree_get s (some v) e =
+  agree_get s None e = record { relation = both_installed g m a h; report = refl }
+  agree_get s (Some v) e =
       record {
         relation = both_installed (with_top g (touched_top g s)) (set s (kept n v) m) a (record { records = agree_touch s v e; one_entry = one_entry_set s v; awaiting = h.awaiting });
         report = refl;
       }
 
   agree_read : (s : Slot) (o : Option Value) → ledger_resolved R L s ≡ o → PerformAgrees R (perform_read g s o) (ledger_read L s o)
-  agree_read s none e =
+  agree_read s None e =
       record {
         relation = both_installed (with_reads g g.top (join s g.pending) (count_waiting (is_awaiting s g.pending) g.totals)) m (set s (one_more_waiter (lookup s a)) a)
             (record { records = h.records; one_entry = h.one_entry; awaiting = awaiting_join h.awaiting s });
         report = ap waiting (waiting_same h.awaiting s);
       }
-  agree_read s (some v) e =
+  agree_read s (Some v) e =
       record {
         relation = both_installed (with_reads g (touched_top g s) g.pending (count_served g.totals)) (set s (kept n v) m) a
             (record { records = agree_touch s v e; one_entry = one_entry_set s v; awaiting = h.awaiting });
@@ -171,7 +171,7 @@ module _ (cfg : Config) (g : Generation) (m : LedgerMap) (a : AwaitingMap) (h : 
   agree_at (answer ms) d = agree_answer ms (distinct (member_slots ms) d)
   agree_at (answer_failed ss) d = agree_failed ss (distinct ss d)
 
-  agree_some : (c : StoreCall) → answer_names_twice (on_store c) ≡ false → PerformAgrees R (perform cfg (some g) c) (ledger_perform R (some L) c)
+  agree_some : (c : StoreCall) → answer_names_twice (on_store c) ≡ false → PerformAgrees R (perform cfg (Some g) c) (ledger_perform R (Some L) c)
   unfolding perform ledger_perform answer_names_twice
   agree_some (install b) d =
       split (anchor_eqb g.anchor b)

@@ -1,10 +1,11 @@
 -- The run of specs/Witness.antt is as claimed: by computation, and its calls are true.
+use Rattle.std.specs.Prelude.{None, Some}
+use Rattle.std.proofs.lemmas.Option.{none-some, same_Some}
 use Prim.Native.Nat.{ℕ}
 use native.Mathlib.Omega.{arith}
 use mathlib.Core.Path.{◌≡◌, refl, sym, ap, ◌∙◌}
 use mathlib.Core.Bool.{true, false}
 use mathlib.Core.List.{[]}
-use mathlib.Core.Option.{some, none, none-ne-some, some-injective}
 use Rattle.model.specs.Slots
 use Rattle.model.specs.Layers
 use Rattle.model.specs.Advance
@@ -20,9 +21,9 @@ use Rattle.model.proofs.SlotLaws.{split, slot_eqb_sym, slot_eqb_apart}
 
 -- What the run computes to.
 record Computed : Type 0 where
-  answers : trace none run ≡ run_answers
-  serves : serves_value (final none run) P ≡ some (word 5)
-  lapsed : serves_value (final none run) Q ≡ none
+  answers : trace None run ≡ run_answers
+  serves : serves_value (final None run) P ≡ Some (word 5)
+  lapsed : serves_value (final None run) Q ≡ None
 
 computed : Computed
 unfolding Slots.words_eqb Slots.words_ltb Slots.address_eqb Slots.u256_eqb Slots.slot_eqb Slots.slot_ltb Slots.mem Slots.anchor_eqb Layers.find Layers.held_value Layers.freshest_use Layers.insert Layers.count_distinct Layers.slots Layers.all_slots Layers.record_count Layers.held_count Layers.live_count Advance.is_void Advance.compact_slots Advance.compact Advance.compact_base Advance.seal Advance.relevant Advance.seed_final_writes Reads.waiters_of Reads.is_awaiting Reads.is_taken Reads.join Reads.queued Reads.take_queued Reads.remove_pending Reads.remove_all_pending Reads.woken Reads.all_taken Reads.has_duplicate Reads.member_slots Reads.valued_slots Reads.refused_slots Reads.settle_members Store.carry Store.cold_advance Store.perform Store.accept Refusals.not_a_store Refusals.capacity_out_of_range Refusals.depth_out_of_range Refusals.skip_with_writes Refusals.skip_out_of_range Refusals.answer_names_twice Refusals.lent_too_short Refusals.nothing_installed Refusals.another_anchor Refusals.answered_not_taken Refusals.reads_exhausted Refusals.queue_full Refusals.over_capacity Refusals.output_short_of_queue Refusals.conditions Refusals.first_that_holds Refusals.refusal Refusals.step Refusals.trace Refusals.final
@@ -34,7 +35,7 @@ computed = record { answers = refl; serves = refl; lapsed = refl }
 true_block : (n : ℕ) (h : Hash) → u256_eqb (word n) fork_hash ≡ false → u256_eqb h fork_hash ≡ false → TrueWrites truth (block n) h (block_writes n)
 unfolding last_value named_slots mem
 true_block n h p q = record {
-  last_values_true = λ s v e. split (slot_eqb W s) (λ y. rw y (sym (some-injective (word n) v (rw y at e)))) (λ y. absurd (none-ne-some v (rw y at e)));
+  last_values_true = λ s v e. split (slot_eqb W s) (λ y. rw y (sym (same_Some (word n) v (rw y at e)))) (λ y. absurd (none-some v (rw y at e)));
   names_every_change = λ k e s d. split (slot_eqb W s) (λ y. rw y) (λ y. absurd (d (rw (y, p, q))));
 }
 
@@ -48,17 +49,17 @@ true_fork : TrueWrites truth fork (word 111) fork_writes
 unfolding last_value named_slots mem u256_eqb words_eqb
 true_fork = record {
   last_values_true = λ s v e. split (slot_eqb W s)
-      (λ y. rw y (sym (some-injective (word 12) v (rw (not_P s y, y) at e))))
+      (λ y. rw y (sym (same_Some (word 12) v (rw (not_P s y, y) at e))))
       (λ y. split (slot_eqb P s)
-      (λ z. rw (y, z) (sym (some-injective (word 6) v (rw z at e))))
-      (λ z. absurd (none-ne-some v (rw (z, y) at e))));
+      (λ z. rw (y, z) (sym (same_Some (word 6) v (rw z at e))))
+      (λ z. absurd (none-some v (rw (z, y) at e))));
   names_every_change = λ k e s d. split (slot_eqb W s) (λ y. rw y) (λ y. rw y (split (slot_eqb P s) (λ z. rw z) (λ z. absurd (d (rw (y, z))))));
 }
 
 -- Block 0: it has none below.
 true_zero : (h : Hash) → TrueWrites truth (block 0) h []
 unfolding last_value
-true_zero h = record { last_values_true = λ s v e. absurd (none-ne-some v e); names_every_change = λ n e s d. absurd (omega (arith, e)) }
+true_zero h = record { last_values_true = λ s v e. absurd (none-some v e); names_every_change = λ n e s d. absurd (omega (arith, e)) }
 
 true_inputs : TrueInputs truth (calls_of run) (refusal_flags run)
 unfolding slot_eqb u256_eqb words_eqb

@@ -1,10 +1,10 @@
 -- One write of an advance in the ledger, by what it does.
+use Rattle.std.specs.Prelude.{None, Option, Some}
 use Prim.Native.Nat.{ℕ, suc, ◌+◌}
 use native.Mathlib.Omega.{arith}
 use mathlib.Core.Path.{◌≡◌}
 use mathlib.Core.Bool.{◌||◌, cond}
 use mathlib.Core.List.{List, [], ◌∷◌, ◌++◌, append_assoc, append-nil}
-use mathlib.Core.Option.{Option, some, none}
 use Rattle.model.specs.Slots.{Address, Slot, slot_eqb, mem, Retention}
 use Rattle.model.specs.Advance.{Write, WriteKind, overwrite, new, skip, AppliedWrites, no_writes, count_write}
 use Rattle.model.specs.FlatLedger.{Kept, kept, LedgerMap, lookup, in_date, ledger_relevant, Writing, before_writes, applied_by, skipped_by, write_one, write_all}
@@ -24,8 +24,8 @@ kind_of R n relevance w z = ledger_kind R n (ledger_relevant relevance w.slot) (
 
 write_one_of : (R : Retention) (n : ℕ) (relevance : List Address) (w : Write) (o : Option Kept) (z : Writing)
     → write_one R n relevance w o z ≡ write_of_kind n (ledger_kind R n (ledger_relevant relevance w.slot) (mem w.slot z.applied) o) w z
-write_one_of R n relevance w none z = split (ledger_relevant relevance w.slot) (λ y. rw y) (λ y. rw y)
-write_one_of R n relevance w (some k) z =
+write_one_of R n relevance w None z = split (ledger_relevant relevance w.slot) (λ y. rw y) (λ y. rw y)
+write_one_of R n relevance w (Some k) z =
     split (in_date R k.last_use n || mem w.slot z.applied)
     (λ y. rw y)
     (λ y. rw y (split (ledger_relevant relevance w.slot) (λ x. rw x) (λ x. rw x)))

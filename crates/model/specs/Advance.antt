@@ -1,7 +1,6 @@
 -- An advance: the link to the parent, the fold and the seal of its layers, and the child's writes.
-use Rattle.std.specs.Prelude.{ℕ, suc, ◌-◌, ◌^◌, Bool, true, false, not, ◌&&◌, ◌||◌, cond, List, [], ◌∷◌, eqb, ltb, length}
-use Rattle.std.proofs.Math.Option.{Option, some, none}
-use Rattle.model.specs.Slots.{Address, address_eqb, Value, LastUse, Hash, u256_eqb, Slot, BlockHash, Unknown, Known, ReadAnchor, Retention, serves}
+use Rattle.std.specs.Prelude.{ℕ, suc, ◌-◌, ◌^◌, Bool, true, false, not, ◌&&◌, ◌||◌, cond, List, [], ◌∷◌, eqb, ltb, length, None, Option, Some}
+use Rattle.model.specs.Slots.{Address, address_eqb, Value, LastUse, Hash, u256_eqb, Slot, ReadAnchor, Retention, serves}
 use Rattle.model.specs.Layers.{LayerOf, Layer, find, held_value, freshest_use, insert, count_distinct, all_slots}
 pub use Rattle.model.specs.declared.delta_snapshot.CompactionReport.{CompactionReport}
 use Rattle.model.specs.Contents.{valued, valued_use}
@@ -33,15 +32,15 @@ abbrev pub skip_of : ℕ → BalSkip
 skip_of n = cond (eqb n 0) Decoded (cond (eqb n 1) NoAnchorHash (cond (eqb n 2) Rpc Decode))
 
 -- The part of the link that compares hashes.
-abbrev pub classify_hash : BlockHash → Hash → Lineage
-classify_hash Unknown parent_hash = ParentHashUnknown
-classify_hash (Known h) parent_hash = cond (u256_eqb h parent_hash) Linked ParentHashMismatch
+abbrev pub classify_hash : Option Hash → Hash → Lineage
+classify_hash None parent_hash = ParentHashUnknown
+classify_hash (Some h) parent_hash = cond (u256_eqb h parent_hash) Linked ParentHashMismatch
 
 -- How a child stands to the installed anchor (`classify_link`), the first that applies: no parent; the child's number is not the parent's plus one
 -- (a parent at 2^64 − 1 always); the parent has no hash; hashes differ; linked.
 abbrev pub classify_link : Option ReadAnchor → ReadAnchor → Hash → Lineage
-classify_link none child parent_hash = NoParent
-classify_link (some p) child parent_hash =
+classify_link None child parent_hash = NoParent
+classify_link (Some p) child parent_hash =
     cond (ltb p.number (2 ^ 64 - 1) && eqb child.number (suc p.number)) (classify_hash p.hash parent_hash) NotConsecutive
 
 -- Whether an advance carries: linked, and its list read.
@@ -63,9 +62,9 @@ is_void ((r ∷ l) ∷ ls) = false
 
 -- One slot's part of a fold: its newest value and freshest use stay if the use serves. (A slot without a use or without a value is a filler: every slot of a well-formed base has both.)
 abbrev pub compact_slot : Retention → ℕ → Slot → Option LastUse → Option Value → Layer → Layer
-compact_slot R now s none h l = l
-compact_slot R now s (some u) none l = l
-compact_slot R now s (some u) (some v) l = cond (serves R u now) (insert s (valued u v) l) l
+compact_slot R now s None h l = l
+compact_slot R now s (Some u) None l = l
+compact_slot R now s (Some u) (Some v) l = cond (serves R u now) (insert s (valued u v) l) l
 
 -- The one layer that a fold makes of the listed slots.
 unfoldable pub compact_slots : Retention → ℕ → List Layer → List Slot → Layer
@@ -74,8 +73,8 @@ compact_slots R now b (s ∷ ss) = compact_slot R now s (freshest_use s b) (held
 
 -- Whether a slot's use no longer serves. (No use is a filler: it is asked of slots with records.)
 abbrev pub lapsed : Retention → ℕ → Option LastUse → Bool
-lapsed R now none = false
-lapsed R now (some u) = not (serves R u now)
+lapsed R now None = false
+lapsed R now (Some u) = not (serves R u now)
 
 -- The report (`CompactionReport`) without a fold.
 abbrev pub no_compaction : CompactionReport
@@ -129,13 +128,13 @@ unserved_kind false = skip
 
 -- What a write does, of the slot's freshest use: served here asks of the use alone, with no look at the value.
 abbrev pub write_kind : Retention → ℕ → Bool → Option LastUse → WriteKind
-write_kind R now is_relevant none = unserved_kind is_relevant
-write_kind R now is_relevant (some u) = cond (serves R u now) (overwrite u) (unserved_kind is_relevant)
+write_kind R now is_relevant None = unserved_kind is_relevant
+write_kind R now is_relevant (Some u) = cond (serves R u now) (overwrite u) (unserved_kind is_relevant)
 
 -- What a write within a list does, of the last use that the new top has with a value: a slot written earlier in this list has one, and it is kept.
 abbrev pub final_write_kind : Retention → ℕ → Bool → Option LastUse → Option LastUse → WriteKind
-final_write_kind R now is_relevant none f = write_kind R now is_relevant f
-final_write_kind R now is_relevant (some u) f = overwrite u
+final_write_kind R now is_relevant None f = write_kind R now is_relevant f
+final_write_kind R now is_relevant (Some u) f = overwrite u
 
 -- Whether an address is on the call's list, which is document 01's relevant (`RelevanceSet::contains`).
 unfoldable pub relevant : List Address → Address → Bool

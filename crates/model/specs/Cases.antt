@@ -1,7 +1,6 @@
 -- The twelve cases of document 01, as a table. Each of the four misreadings that it names would change a row: see the comments.
-use Rattle.std.specs.Prelude.{ℕ, ◌^◌, ◌-◌, ◌≡◌, take, length}
+use Rattle.std.specs.Prelude.{ℕ, ◌^◌, ◌-◌, ◌≡◌, take, length, None, Some}
 use mathlib.Core.List.{List, [], ◌∷◌, map, Memᴰ}
-use Rattle.std.proofs.Math.Option.{some, none}
 use Rattle.model.specs.Slots.{Address, U256, Slot, ReadAnchor, at, identified, Unbounded, IdleBlocks}
 use Rattle.model.specs.Advance.{CarryOutcome, Carried, Cold, NotConsecutive, ParentHashUnknown, ParentHashMismatch, Decoded, Write, AppliedWrites, CompactionReport, no_compaction}
 use Rattle.model.specs.Store.{SlotCall, look, get, put, read, AnchoredCall, on_slot, answer, install, advance, at_anchor, Call, open_store, on_store, advanced, value, no_value, stored, waiting}
@@ -22,7 +21,7 @@ abbrev pub enough : Lent
 enough = record { store_bytes = 8192; work_bytes = 8192; output_entries = 4 }
 
 abbrev pub last_answer : List Call → Answer
-last_answer cs = last_from (refuse 0) (trace none (map (λ c. record { call = c; lent = enough }) cs))
+last_answer cs = last_from (refuse 0) (trace None (map (λ c. record { call = c; lent = enough }) cs))
 
 -- A 32-byte number from a small one, and the slot of the cases.
 abbrev pub small : ℕ → U256
@@ -69,7 +68,7 @@ whole_case =
     ∷ slot_call_at 12 (get P)
     ∷ slot_call_at 12 (read P)
     ∷ advance_to 13 12 [] []
-    ∷ call_at 12 (answer (record { slot = P; outcome = some (small 3) } ∷ []))
+    ∷ call_at 12 (answer (record { slot = P; outcome = Some (small 3) } ∷ []))
     ∷ []
 
 -- A put of P at 0, advances up to 6 with a relevant write of P at 5, and a look, under idle n.

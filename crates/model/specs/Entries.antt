@@ -1,6 +1,5 @@
 -- Entries of lists in bytes: addresses, 32-byte numbers, slots, writes, members. Call lists and lent lists have the same.
-use Rattle.std.specs.Prelude.{ℕ, zero, suc, ◌+◌, ◌*◌, ◌/◌, Bool, true, ◌&&◌, cond, List, [], ◌∷◌, ◌++◌, map, eqb, leb, length, take, drop, get_or}
-use Rattle.std.proofs.Math.Option.{some, none}
+use Rattle.std.specs.Prelude.{ℕ, zero, suc, ◌+◌, ◌*◌, ◌/◌, Bool, true, ◌&&◌, cond, List, [], ◌∷◌, ◌++◌, map, eqb, leb, length, take, drop, get_or, None, Some}
 use Rattle.model.specs.Numbers.{be, num}
 use Rattle.model.specs.Slots.{Address, U256, Slot}
 use Rattle.model.specs.Advance.{Write}
@@ -29,7 +28,7 @@ write_of b = record { slot = slot_of b; value = u256_at 52 b }
 -- A member of a lent answer has 85 bytes: a slot, 0 for a refusal or 1 for a value, and the value's 32 bytes, which a refusal leaves unread.
 -- Any other flag byte is refused before the members are read (`flags_known`).
 abbrev pub member_of : List ℕ → Member
-member_of b = record { slot = slot_of b; outcome = cond (eqb (get_or b 52 0) 0) none (some (u256_at 53 b)) }
+member_of b = record { slot = slot_of b; outcome = cond (eqb (get_or b 52 0) 0) None (Some (u256_at 53 b)) }
 
 -- The first n entries of w bytes each.
 unfoldable pub chunks : ℕ → ℕ → List ℕ → List (List ℕ)

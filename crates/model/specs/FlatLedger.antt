@@ -1,8 +1,7 @@
 -- The flat ledger: one map from slots to values and last uses, with no layers and no folds.
 -- It shares with the store the types, and equality and order of slots, addresses, hashes and anchors. Its rules are its own.
-use Rattle.std.specs.Prelude.{ℕ, zero, suc, ◌+◌, ◌^◌, Bool, true, false, not, ◌&&◌, ◌||◌, cond, List, [], ◌∷◌, ◌++◌, map, eqb, leb, ltb, length}
-use Rattle.std.proofs.Math.Option.{Option, some, none}
-use Rattle.model.specs.Slots.{Address, address_eqb, Value, LastUse, Hash, Slot, slot_eqb, slot_ltb, mem, Unknown, Known, hash_eqb, ReadAnchor, anchor_eqb, Retention, Unbounded, IdleBlocks}
+use Rattle.std.specs.Prelude.{ℕ, zero, suc, ◌+◌, ◌^◌, Bool, true, false, not, ◌&&◌, ◌||◌, cond, List, [], ◌∷◌, ◌++◌, map, eqb, leb, ltb, length, None, Option, Some}
+use Rattle.model.specs.Slots.{Address, address_eqb, Value, LastUse, Hash, Slot, slot_eqb, slot_ltb, mem, hash_eqb, ReadAnchor, anchor_eqb, Retention, Unbounded, IdleBlocks}
 use Rattle.model.specs.Advance.{Lineage, Linked, NoParent, NotConsecutive, ParentHashUnknown, ParentHashMismatch, BalSkip, Decoded, NoAnchorHash, Rpc, Decode, CarryOutcome, AlreadyCurrent, Carried, Cold, Write, AppliedWrites, no_compaction}
 use Rattle.model.specs.Reads.{Member}
 use Rattle.model.specs.Store.{SlotCall, look, get, put, read, AnchoredCall, on_slot, take, answer, answer_failed, Prepared, StoreCall, install, advance, at_anchor, Call, open_store, on_store, Report, opened, anchor_same, anchor_fresh, advanced, value, no_value, stored, waiting, listed, answered}
@@ -20,8 +19,8 @@ SlotMap A = List (Entry A)
 
 -- What a map has of a slot, or none.
 unfoldable pub lookup : {A : Type 0} → Slot → SlotMap A → Option A
-lookup s [] = none
-lookup s (e ∷ m) = cond (slot_eqb e.slot s) (some e.content) (lookup s m)
+lookup s [] = None
+lookup s (e ∷ m) = cond (slot_eqb e.slot s) (Some e.content) (lookup s m)
 
 -- A map without some slots, and with a slot set.
 unfoldable pub without : {A : Type 0} → List Slot → SlotMap A → SlotMap A
@@ -75,8 +74,8 @@ in_date (IdleBlocks n) u now = leb now (u + n)
 
 -- The value that a slot is served with, of what the map has of it.
 abbrev pub value_in_date : Retention → ℕ → Option Kept → Option Value
-value_in_date R now none = none
-value_in_date R now (some k) = cond (in_date R k.last_use now) (some k.value) none
+value_in_date R now None = None
+value_in_date R now (Some k) = cond (in_date R k.last_use now) (Some k.value) None
 
 abbrev pub ledger_resolved : Retention → LedgerGeneration → Slot → Option Value
 ledger_resolved R g s = value_in_date R g.anchor.number (lookup s g.map)
@@ -90,11 +89,11 @@ entries_in_date R now (e ∷ m) = cond (in_date R e.content.last_use now) (suc (
 
 -- How a child stands to the anchor, the first that applies. A number has 64 bits, so that nothing comes after 2^64 − 1.
 abbrev pub ledger_link : Option ReadAnchor → ReadAnchor → Hash → Lineage
-ledger_link none child parent_hash = NoParent
-ledger_link (some p) child parent_hash =
+ledger_link None child parent_hash = NoParent
+ledger_link (Some p) child parent_hash =
     cond (not (eqb child.number (p.number + 1) && ltb child.number (2 ^ 64))) NotConsecutive
-    (cond (hash_eqb p.hash Unknown) ParentHashUnknown
-    (cond (not (hash_eqb p.hash (Known parent_hash))) ParentHashMismatch
+    (cond (hash_eqb p.hash None) ParentHashUnknown
+    (cond (not (hash_eqb p.hash (Some parent_hash))) ParentHashMismatch
     Linked))
 
 -- The skip of a number, and whether an advance keeps the map: linked and unskipped.
@@ -145,8 +144,8 @@ write_unserved now relevance w z = cond (ledger_relevant relevance w.slot) (appl
 
 -- A write, of what the map has of its slot: served, or written earlier in this list, it is overwritten and the last use kept.
 abbrev pub write_one : Retention → ℕ → List Address → Write → Option Kept → Writing → Writing
-write_one R now relevance w none z = write_unserved now relevance w z
-write_one R now relevance w (some k) z =
+write_one R now relevance w None z = write_unserved now relevance w z
+write_one R now relevance w (Some k) z =
     cond (in_date R k.last_use now || mem w.slot z.applied) (applied_by w k.last_use 1 z) (write_unserved now relevance w z)
 
 -- The writes in order.
@@ -158,8 +157,8 @@ write_all R now relevance (w ∷ ws) z = write_all R now relevance ws (write_one
 
 -- A slot's waiters, and whether it is taken, after an unserved read: one waiter more.
 abbrev pub one_more_waiter : Option Awaiting → Awaiting
-one_more_waiter none = record { waiters = 1; taken = false }
-one_more_waiter (some w) = record { waiters = w.waiters + 1; taken = w.taken }
+one_more_waiter None = record { waiters = 1; taken = false }
+one_more_waiter (Some w) = record { waiters = w.waiters + 1; taken = w.taken }
 
 -- A slot put into its place in a rising list, and the slots that are not taken, rising.
 unfoldable pub place : Slot → List Slot → List Slot
@@ -181,8 +180,8 @@ waiters_among ss (e ∷ q) = cond (mem e.slot ss) e.content.waiters 0 + waiters_
 
 -- The number of members without a value.
 abbrev pub count_error : Option Value → ℕ
-count_error none = 1
-count_error (some v) = 0
+count_error None = 1
+count_error (Some v) = 0
 
 unfoldable pub member_errors : List Member → ℕ
 member_errors [] = 0
@@ -190,8 +189,8 @@ member_errors (x ∷ xs) = count_error x.outcome + member_errors xs
 
 -- The map after the members of an answer: a value sets value and use.
 abbrev pub settle_value : ℕ → Slot → Option Value → LedgerMap → LedgerMap
-settle_value now s none m = m
-settle_value now s (some v) m = set s (kept now v) m
+settle_value now s None m = m
+settle_value now s (Some v) m = set s (kept now v) m
 
 unfoldable pub settle_values : ℕ → List Member → LedgerMap → LedgerMap
 settle_values now [] m = m
@@ -221,8 +220,8 @@ compared_report (answered m e w) = answered m e w
 
 -- What is compared of an answer: nothing where the call was turned down.
 abbrev pub compared : Answer → Option Report
-compared (refuse n) = none
-compared (ok r) = some (compared_report r)
+compared (refuse n) = None
+compared (ok r) = Some (compared_report r)
 
 -- The calls -----------------------------------------------------------------------------------------
 
@@ -232,7 +231,7 @@ pub record LedgerPerformed : Type 0 where
   pub report : Report
 
 abbrev pub ledger_performed : LedgerGeneration → Report → LedgerPerformed
-ledger_performed g r = record { installed = some g; report = r }
+ledger_performed g r = record { installed = Some g; report = r }
 
 -- An advance's report, so far as it is compared.
 abbrev pub ledger_report : Retention → ReadAnchor → CarryOutcome → Writing → Report
@@ -253,21 +252,21 @@ ledger_carry_or_cold R m child l p =
 
 -- A look, a get and a read, of what a look answers: get and read set the use if served; an unserved read waits.
 abbrev pub ledger_look : Option Value → Report
-ledger_look none = no_value
-ledger_look (some v) = value v
+ledger_look None = no_value
+ledger_look (Some v) = value v
 
 abbrev pub ledger_use : LedgerGeneration → Slot → Value → LedgerGeneration
 ledger_use g s v = ledger_generation g.anchor (set s (kept g.anchor.number v) g.map) g.awaiting
 
 abbrev pub ledger_get : LedgerGeneration → Slot → Option Value → LedgerPerformed
-ledger_get g s none = ledger_performed g no_value
-ledger_get g s (some v) = ledger_performed (ledger_use g s v) (value v)
+ledger_get g s None = ledger_performed g no_value
+ledger_get g s (Some v) = ledger_performed (ledger_use g s v) (value v)
 
 abbrev pub ledger_read : LedgerGeneration → Slot → Option Value → LedgerPerformed
-ledger_read g s none =
+ledger_read g s None =
     let w : Awaiting = one_more_waiter (lookup s g.awaiting) in
     ledger_performed (ledger_generation g.anchor g.map (set s w g.awaiting)) (waiting w.waiters)
-ledger_read g s (some v) = ledger_performed (ledger_use g s v) (value v)
+ledger_read g s (Some v) = ledger_performed (ledger_use g s v) (value v)
 
 -- An answer to some slots, of the map after it and its member errors: the slots go, and their waiters wake.
 abbrev pub ledger_answer : LedgerGeneration → LedgerMap → List Slot → ℕ → LedgerPerformed
@@ -293,17 +292,17 @@ ledger_perform_some R g (install a) =
     cond (anchor_eqb g.anchor a) (ledger_performed g anchor_same) (ledger_performed (ledger_generation a [] []) anchor_fresh)
 ledger_perform_some R g (advance child h p) =
     cond (anchor_eqb g.anchor child) (ledger_performed g (ledger_report R g.anchor AlreadyCurrent (before_writes g.map)))
-    (ledger_carry_or_cold R g.map child (ledger_link (some g.anchor) child h) p)
+    (ledger_carry_or_cold R g.map child (ledger_link (Some g.anchor) child h) p)
 ledger_perform_some R g (at_anchor a c) = ledger_perform_at R g c
 
 abbrev pub ledger_perform_none : Retention → StoreCall → LedgerPerformed
 ledger_perform_none R (install a) = ledger_performed (ledger_generation a [] []) anchor_fresh
-ledger_perform_none R (advance child h p) = ledger_carry_or_cold R [] child (ledger_link none child h) p
-ledger_perform_none R (at_anchor a c) = record { installed = none; report = no_value }
+ledger_perform_none R (advance child h p) = ledger_carry_or_cold R [] child (ledger_link None child h) p
+ledger_perform_none R (at_anchor a c) = record { installed = None; report = no_value }
 
 unfoldable pub ledger_perform : Retention → Option LedgerGeneration → StoreCall → LedgerPerformed
-ledger_perform R none c = ledger_perform_none R c
-ledger_perform R (some g) c = ledger_perform_some R g c
+ledger_perform R None c = ledger_perform_none R c
+ledger_perform R (Some g) c = ledger_perform_some R g c
 
 -- An accepted call. An open starts the ledger anew, with no anchor and its retention; before it nothing else is accepted, so that the second case is never met.
 pub record LedgerStepResult : Type 0 where
@@ -311,20 +310,20 @@ pub record LedgerStepResult : Type 0 where
   pub report : Report
 
 abbrev pub after_ledger_call : Retention → LedgerPerformed → LedgerStepResult
-after_ledger_call R p = record { ledger = some (record { retention = R; installed = p.installed }); report = p.report }
+after_ledger_call R p = record { ledger = Some (record { retention = R; installed = p.installed }); report = p.report }
 
 unfoldable pub ledger_step : Option Ledger → Call → LedgerStepResult
-ledger_step l (open_store capacity depth R) = record { ledger = some (record { retention = R; installed = none }); report = opened }
-ledger_step none (on_store c) = record { ledger = none; report = no_value }
-ledger_step (some l) (on_store c) = after_ledger_call l.retention (ledger_perform l.retention l.installed c)
+ledger_step l (open_store capacity depth R) = record { ledger = Some (record { retention = R; installed = None }); report = opened }
+ledger_step None (on_store c) = record { ledger = None; report = no_value }
+ledger_step (Some l) (on_store c) = after_ledger_call l.retention (ledger_perform l.retention l.installed c)
 
 -- The ledger's answers over a list of calls, and the ledger after it.
 -- It is fed the calls and, for each, whether it was turned down (so that flags never end first); a call turned down changes nothing.
 unfoldable pub ledger_trace : Option Ledger → List Call → List Bool → List (Option Report)
 ledger_trace l [] bs = []
 ledger_trace l (c ∷ cs) [] = []
-ledger_trace l (c ∷ cs) (true ∷ bs) = none ∷ ledger_trace l cs bs
-ledger_trace l (c ∷ cs) (false ∷ bs) = let o : LedgerStepResult = ledger_step l c in some o.report ∷ ledger_trace o.ledger cs bs
+ledger_trace l (c ∷ cs) (true ∷ bs) = None ∷ ledger_trace l cs bs
+ledger_trace l (c ∷ cs) (false ∷ bs) = let o : LedgerStepResult = ledger_step l c in Some o.report ∷ ledger_trace o.ledger cs bs
 
 unfoldable pub ledger_final : Option Ledger → List Call → List Bool → Option Ledger
 ledger_final l [] bs = l
@@ -334,9 +333,9 @@ ledger_final l (c ∷ cs) (false ∷ bs) = ledger_final (ledger_step l c).ledger
 
 -- The value that the ledger serves a slot with, or none.
 abbrev pub ledger_generation_serves : Retention → Option LedgerGeneration → Slot → Option Value
-ledger_generation_serves R none s = none
-ledger_generation_serves R (some g) s = ledger_resolved R g s
+ledger_generation_serves R None s = None
+ledger_generation_serves R (Some g) s = ledger_resolved R g s
 
 abbrev pub ledger_serves : Option Ledger → Slot → Option Value
-ledger_serves none s = none
-ledger_serves (some l) s = ledger_generation_serves l.retention l.installed s
+ledger_serves None s = None
+ledger_serves (Some l) s = ledger_generation_serves l.retention l.installed s

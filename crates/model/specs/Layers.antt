@@ -1,8 +1,7 @@
 -- Layers, over any content: searching them, storing in the top, and counting.
-use Rattle.std.specs.Prelude.{ℕ, suc, ◌+◌, Bool, not, ◌&&◌, cond, List, [], ◌∷◌, ◌++◌, length}
-use Rattle.std.proofs.Math.Option.{Option, some, none}
+use Rattle.std.specs.Prelude.{ℕ, suc, ◌+◌, Bool, not, ◌&&◌, cond, List, [], ◌∷◌, ◌++◌, length, None, Option, Some, is_some}
 use Rattle.model.specs.Slots.{Value, LastUse, Slot, slot_eqb, slot_ltb, mem, Retention, serves}
-use Rattle.model.specs.Contents.{Content, valued, last_use_of, value_of, is_some, or_else, max_option}
+use Rattle.model.specs.Contents.{Content, valued, last_use_of, value_of, or_else, max_option}
 
 -- A record (document 01's term): one slot's entry in one layer or in the top.
 pub record RecordOf (A : Type 0) : Type 0 where
@@ -21,23 +20,23 @@ Layer = LayerOf Content
 
 -- The content of a slot's record in a layer, or none.
 unfoldable pub find : {A : Type 0} → Slot → LayerOf A → Option A
-find s [] = none
-find s (r ∷ l) = cond (slot_eqb r.slot s) (some r.content) (find s l)
+find s [] = None
+find s (r ∷ l) = cond (slot_eqb r.slot s) (Some r.content) (find s l)
 
 -- The held value (`held_value`), searched from the newest layer down, each step passing the search to the layer below.
 unfoldable pub held_value : Slot → List Layer → Option Value
-held_value s [] = none
+held_value s [] = None
 held_value s (l ∷ ls) = or_else (value_of (find s l)) (held_value s ls)
 
 -- The freshest use (`freshest_use`): the largest last use on the way down.
 unfoldable pub freshest_use : Slot → List Layer → Option LastUse
-freshest_use s [] = none
+freshest_use s [] = None
 freshest_use s (l ∷ ls) = max_option (last_use_of (find s l)) (freshest_use s ls)
 
 -- What a look answers, of a freshest use and a held value (`resolved_through_policy`): the value if the use serves. Served in this sense, with a value, is what looks, reads and the live count ask; a write asks of the freshest use alone (`write_kind`), which is the same on a well-formed store, where every slot with a record has a value.
 abbrev pub resolved_through_policy : Retention → ℕ → Option LastUse → Option Value → Option Value
-resolved_through_policy R now none h = none
-resolved_through_policy R now (some u) h = cond (serves R u now) h none
+resolved_through_policy R now None h = None
+resolved_through_policy R now (Some u) h = cond (serves R u now) h None
 
 -- Sets a slot's record in a layer, whose slots rise.
 unfoldable pub insert : {A : Type 0} → Slot → A → LayerOf A → LayerOf A

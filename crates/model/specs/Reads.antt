@@ -1,6 +1,5 @@
 -- Reads: the slots that await an answer, and the running totals of a generation's reads.
-use Rattle.std.specs.Prelude.{ℕ, suc, ◌+◌, ◌-◌, Bool, true, false, ◌&&◌, ◌||◌, cond, List, [], ◌∷◌, eqb}
-use Rattle.std.proofs.Math.Option.{Option, some, none}
+use Rattle.std.specs.Prelude.{ℕ, suc, ◌+◌, ◌-◌, Bool, true, false, ◌&&◌, ◌||◌, cond, List, [], ◌∷◌, eqb, None, Option, Some}
 use Rattle.model.specs.Slots.{Value, Slot, slot_eqb, slot_ltb, mem}
 use Rattle.model.specs.Layers.{Layer, settle}
 pub use Rattle.model.specs.declared.read_hub.ReadTotals.{ReadTotals}
@@ -78,12 +77,12 @@ member_slots [] = []
 member_slots (m ∷ ms) = m.slot ∷ member_slots ms
 
 abbrev pub if_valued : Option Value → Slot → List Slot → List Slot
-if_valued none s l = l
-if_valued (some v) s l = s ∷ l
+if_valued None s l = l
+if_valued (Some v) s l = s ∷ l
 
 abbrev pub if_refused : Option Value → Slot → List Slot → List Slot
-if_refused none s l = s ∷ l
-if_refused (some v) s l = l
+if_refused None s l = s ∷ l
+if_refused (Some v) s l = l
 
 unfoldable pub valued_slots : List Member → List Slot
 valued_slots [] = []
@@ -95,8 +94,8 @@ refused_slots (m ∷ ms) = if_refused m.outcome m.slot (refused_slots ms)
 
 -- The top after the members of an answer: a value is put, a refusal changes nothing.
 abbrev pub settle_outcome : ℕ → Slot → Option Value → Layer → Layer
-settle_outcome now s none l = l
-settle_outcome now s (some v) l = settle now s v l
+settle_outcome now s None l = l
+settle_outcome now s (Some v) l = settle now s v l
 
 unfoldable pub settle_members : ℕ → List Member → Layer → Layer
 settle_members now [] l = l

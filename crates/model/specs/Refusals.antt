@@ -1,12 +1,12 @@
 -- Every refusal of a call in document 01's one order, one call, and lists of calls. Refusals 3, 4 and 5 are of call lists, 10 of final writes.
-use Rattle.std.specs.Prelude.{ℕ, ◌+◌, ◌*◌, Bool, true, false, not, ◌&&◌, ◌||◌, cond, List, [], ◌∷◌, eqb, leb, ltb, length}
-use Rattle.std.proofs.Math.Option.{Option, some, none}
+use Rattle.std.specs.Prelude.{ℕ, ◌+◌, ◌*◌, Bool, true, false, not, ◌&&◌, ◌||◌, cond, List, [], ◌∷◌, eqb, leb, ltb, length, None, Option, Some, is_some}
 use Rattle.layout.specs.Layout.{record_width, records_index}
 use Rattle.model.specs.Slots.{Slot, ReadAnchor, anchor_eqb}
-use Rattle.model.specs.Contents.{is_some}
 use Rattle.model.specs.Layers.{record_count}
 use Rattle.model.specs.Reads.{is_awaiting, queued, all_taken, has_duplicate, member_slots}
 use Rattle.model.specs.Store.{Config, Generation, look, get, put, read, AnchoredCall, on_slot, take, answer, answer_failed, Prepared, install, advance, at_anchor, Call, open_store, on_store, Report, resolved, chain, Memory, Accepted, accept}
+pub use Rattle.model.specs.declared.refusal.Refusal.{Refusal}
+use Rattle.model.specs.declared.refusal.Refusal.TheVariants.{CapacityOutOfRange, DepthOutOfRange, UnknownForm, SkipWithWrites, SkipOutOfRange, NamesTwice, LentTooShort, CountsDiffer, NotAStore, NothingInstalled, AnotherAnchor, OverCapacity, QueueFull, ReadsExhausted, NotTaken, OutputTooShort}
 
 -- The sizes of what is lent to one call: the store's and the work area's bytes, and the entries that the output holds.
 -- An open asks for enough store bytes (9). For any other call they have been read before, as a store or as none (20): to it this number means nothing.
@@ -28,8 +28,8 @@ work_size capacity = store_size capacity
 
 -- The installed generation, where the bytes are a store.
 abbrev pub installed_in : Memory → Option Generation
-installed_in none = none
-installed_in (some st) = st.installed
+installed_in None = None
+installed_in (Some st) = st.installed
 
 -- What is asked of an open's capacity and depth, of what was prepared for an advance, of a call that names an anchor; of any other call it does not hold.
 abbrev pub if_open : Call → (ℕ → ℕ → Bool) → Bool
@@ -73,17 +73,17 @@ answered_slots (answer_failed ss) = ss
 
 -- What is asked of the store, and of the installed generation; without one it does not hold.
 abbrev pub if_store : Memory → (Config → Bool) → Bool
-if_store none f = false
-if_store (some st) f = f st.config
+if_store None f = false
+if_store (Some st) f = f st.config
 
 abbrev pub if_installed : Option Generation → (Generation → Bool) → Bool
-if_installed none f = false
-if_installed (some g) f = f g
+if_installed None f = false
+if_installed (Some g) f = f g
 
 -- 20: the lent bytes are not a store. (Not for open.)
 unfoldable pub not_a_store : Memory → Call → Bool
-not_a_store none c = not (if_open c (λ capacity depth. true))
-not_a_store (some st) c = false
+not_a_store None c = not (if_open c (λ capacity depth. true))
+not_a_store (Some st) c = false
 
 -- 1: capacity is 0 or above 4,096 records. 2: depth limit is above 255.
 unfoldable pub capacity_out_of_range : Call → Bool
@@ -139,6 +139,25 @@ over_capacity m c =
 unfoldable pub output_short_of_queue : Memory → Lent → Call → Bool
 output_short_of_queue m l c = if_anchored c (λ a k. is_take k && if_installed (installed_in m) (λ g. ltb l.output_entries (length (queued g.pending))))
 
+-- The code's refusals, and the number of each.
+abbrev pub refusal_number : Refusal → ℕ
+refusal_number CapacityOutOfRange = 1
+refusal_number DepthOutOfRange = 2
+refusal_number UnknownForm = 3
+refusal_number SkipWithWrites = 6
+refusal_number SkipOutOfRange = 7
+refusal_number NamesTwice = 8
+refusal_number LentTooShort = 9
+refusal_number CountsDiffer = 10
+refusal_number NotAStore = 20
+refusal_number NothingInstalled = 21
+refusal_number AnotherAnchor = 22
+refusal_number OverCapacity = 23
+refusal_number QueueFull = 24
+refusal_number ReadsExhausted = 25
+refusal_number NotTaken = 26
+refusal_number OutputTooShort = 27
+
 -- A refusal's number, and whether its condition holds.
 pub record Condition : Type 0 where
   pub number : ℕ
@@ -168,8 +187,8 @@ conditions m l c =
 
 -- The number of the first condition that holds, or none.
 unfoldable pub first_that_holds : List Condition → Option ℕ
-first_that_holds [] = none
-first_that_holds (k ∷ ks) = cond k.holds (some k.number) (first_that_holds ks)
+first_that_holds [] = None
+first_that_holds (k ∷ ks) = cond k.holds (Some k.number) (first_that_holds ks)
 
 unfoldable pub refusal : Memory → Lent → Call → Option ℕ
 refusal m l c = first_that_holds (conditions m l c)
@@ -191,8 +210,8 @@ pub record StepResult : Type 0 where
 
 -- A refused call changes nothing.
 abbrev pub conclude : Option ℕ → Memory → Accepted → StepResult
-conclude none m a = record { memory = a.memory; answer = ok a.report }
-conclude (some n) m a = record { memory = m; answer = refuse n }
+conclude None m a = record { memory = a.memory; answer = ok a.report }
+conclude (Some n) m a = record { memory = m; answer = refuse n }
 
 -- One call with what is lent to it.
 pub record LentCall : Type 0 where

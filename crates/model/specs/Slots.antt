@@ -1,9 +1,7 @@
 -- Slots, anchors and retention. The types are the code's own structs and enums.
-use Rattle.std.specs.Prelude.{ℕ, ◌-◌, ◌^◌, Bool, true, false, ◌&&◌, ◌||◌, List, [], ◌∷◌, eqb, leb, ltb, get_or}
+use Rattle.std.specs.Prelude.{ℕ, ◌-◌, ◌^◌, Bool, true, false, ◌&&◌, ◌||◌, List, [], ◌∷◌, eqb, leb, ltb, get_or, None, Option, Some}
 pub use Rattle.model.specs.declared.storage_memo.Address.{Address}
 pub use Rattle.model.specs.declared.storage_memo.U256.{U256}
-pub use Rattle.model.specs.declared.storage_memo.BlockHash.{BlockHash}
-pub use Rattle.model.specs.declared.storage_memo.BlockHash.TheVariants.{Unknown, Known}
 pub use Rattle.model.specs.declared.storage_memo.ReadAnchor.{ReadAnchor}
 pub use Rattle.model.specs.declared.delta_snapshot.Slot.{Slot}
 pub use Rattle.model.specs.declared.delta_snapshot.Retention.{Retention}
@@ -74,17 +72,17 @@ mem s (t ∷ l) = slot_eqb t s || mem s l
 
 -- An anchor with a number alone (`ReadAnchor::at`), and one with its hash (`ReadAnchor::identified`).
 abbrev pub at : ℕ → ReadAnchor
-at n = record { number = n; hash = Unknown }
+at n = record { number = n; hash = None }
 
 abbrev pub identified : ℕ → Hash → ReadAnchor
-identified n h = record { number = n; hash = Known h }
+identified n h = record { number = n; hash = Some h }
 
 -- Whether two hashes, each known or not, are equal.
-abbrev pub hash_eqb : BlockHash → BlockHash → Bool
-hash_eqb Unknown Unknown = true
-hash_eqb Unknown (Known k) = false
-hash_eqb (Known h) Unknown = false
-hash_eqb (Known h) (Known k) = u256_eqb h k
+abbrev pub hash_eqb : Option Hash → Option Hash → Bool
+hash_eqb None None = true
+hash_eqb None (Some k) = false
+hash_eqb (Some h) None = false
+hash_eqb (Some h) (Some k) = u256_eqb h k
 
 -- Whether two anchors are equal: both parts are.
 unfoldable pub anchor_eqb : ReadAnchor → ReadAnchor → Bool

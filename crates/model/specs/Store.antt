@@ -1,6 +1,5 @@
 -- The store, its calls, and what an accepted call does.
-use Rattle.std.specs.Prelude.{ℕ, suc, max, cond, List, [], ◌∷◌, length}
-use Rattle.std.proofs.Math.Option.{Option, some, none}
+use Rattle.std.specs.Prelude.{ℕ, suc, max, cond, List, [], ◌∷◌, length, None, Option, Some}
 use Rattle.model.specs.Slots.{Address, Value, Hash, Slot, ReadAnchor, anchor_eqb, Retention}
 use Rattle.model.specs.Contents.{touch}
 use Rattle.model.specs.Layers.{Layer, find, insert, held_value, freshest_use, resolved_through_policy, settle, held_count, live_count}
@@ -85,8 +84,8 @@ resolved R g s = resolved_through_policy R g.anchor.number (freshest_use s (chai
 
 -- The value that a slot is served with, if one is installed.
 abbrev pub served_value : Retention → Option Generation → Slot → Option Value
-served_value R none s = none
-served_value R (some g) s = resolved R g s
+served_value R None s = None
+served_value R (Some g) s = resolved R g s
 
 -- A generation at an anchor with a base and a top; nothing awaits and the totals are 0.
 abbrev pub new_generation : ReadAnchor → List Layer → Layer → Generation
@@ -105,7 +104,7 @@ pub record Performed : Type 0 where
   pub report : Report
 
 abbrev pub performed : Generation → Report → Performed
-performed g r = record { installed = some g; report = r }
+performed g r = record { installed = Some g; report = r }
 
 -- install (`for_anchor`) -------------------------------------------------------------------------------
 
@@ -154,19 +153,19 @@ touched_top g s = insert s (touch g.anchor.number (find s g.top)) g.top
 
 -- The answer of a look or get.
 abbrev pub value_report : Option Value → Report
-value_report none = no_value
-value_report (some v) = value v
+value_report None = no_value
+value_report (Some v) = value v
 
 -- A get (`StorageView::get`), of what a look answers: a served slot's own use is set to now.
 abbrev pub perform_get : Generation → Slot → Option Value → Performed
-perform_get g s none = performed g no_value
-perform_get g s (some v) = performed (with_top g (touched_top g s)) (value v)
+perform_get g s None = performed g no_value
+perform_get g s (Some v) = performed (with_top g (touched_top g s)) (value v)
 
 -- A read, of what a look answers: served as a get, else the slot awaits an answer.
 abbrev pub perform_read : Generation → Slot → Option Value → Performed
-perform_read g s none =
+perform_read g s None =
     performed (with_reads g g.top (join s g.pending) (count_waiting (is_awaiting s g.pending) g.totals)) (waiting (suc (waiters_of s g.pending)))
-perform_read g s (some v) = performed (with_reads g (touched_top g s) g.pending (count_served g.totals)) (value v)
+perform_read g s (Some v) = performed (with_reads g (touched_top g s) g.pending (count_served g.totals)) (value v)
 
 -- An answer to some slots: of the new top, the slots that it gives a value and those that it refuses, and the member errors.
 abbrev pub perform_answer : Generation → Layer → List Slot → List Slot → List Slot → ℕ → Performed
@@ -197,18 +196,18 @@ abbrev pub perform_some : Config → Generation → StoreCall → Performed
 perform_some cfg g (install a) = cond (anchor_eqb g.anchor a) (performed g anchor_same) (fresh a)
 perform_some cfg g (advance child parent_hash p) =
     cond (anchor_eqb g.anchor child) (performed g (already_current cfg g))
-    (carry_or_cold cfg g child (classify_link (some g.anchor) child parent_hash) p)
+    (carry_or_cold cfg g child (classify_link (Some g.anchor) child parent_hash) p)
 perform_some cfg g (at_anchor a c) = perform_at cfg g c
 
 abbrev pub perform_none : Config → StoreCall → Performed
 perform_none cfg (install a) = fresh a
-perform_none cfg (advance child parent_hash p) = cold_advance cfg child (classify_link none child parent_hash) p
-perform_none cfg (at_anchor a c) = record { installed = none; report = no_value }
+perform_none cfg (advance child parent_hash p) = cold_advance cfg child (classify_link None child parent_hash) p
+perform_none cfg (at_anchor a c) = record { installed = None; report = no_value }
 
 -- What a call of demand 3 does if it is accepted.
 unfoldable pub perform : Config → Option Generation → StoreCall → Performed
-perform cfg none c = perform_none cfg c
-perform cfg (some g) c = perform_some cfg g c
+perform cfg None c = perform_none cfg c
+perform cfg (Some g) c = perform_some cfg g c
 
 -- The lent bytes as a call finds them: a store, or none.
 abbrev pub Memory : Type 0
@@ -221,11 +220,11 @@ pub record Accepted : Type 0 where
 
 -- A store after a call of demand 3.
 abbrev pub after_call : Config → Performed → Accepted
-after_call cfg p = record { memory = some (record { config = cfg; installed = p.installed }); report = p.report }
+after_call cfg p = record { memory = Some (record { config = cfg; installed = p.installed }); report = p.report }
 
 -- What a call does if it is accepted. An open starts anew, with a depth limit of at least 1. (On memory that is no store another call is refused by 20: that case is a filler.)
 unfoldable pub accept : Memory → Call → Accepted
 accept m (open_store capacity depth R) =
-    record { memory = some (record { config = record { capacity = capacity; max_depth = max 1 depth; retention = R }; installed = none }); report = opened }
-accept none (on_store c) = record { memory = none; report = no_value }
-accept (some st) (on_store c) = after_call st.config (perform st.config st.installed c)
+    record { memory = Some (record { config = record { capacity = capacity; max_depth = max 1 depth; retention = R }; installed = None }); report = opened }
+accept None (on_store c) = record { memory = None; report = no_value }
+accept (Some st) (on_store c) = after_call st.config (perform st.config st.installed c)

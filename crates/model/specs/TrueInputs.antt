@@ -1,6 +1,5 @@
 -- Demand 3, first part: what is asked of the values and lists of the accepted calls, and that every value served is then true.
-use Rattle.std.specs.Prelude.{ℕ, suc, ◌≡◌, Bool, true, false, cond, List, [], ◌∷◌}
-use Rattle.std.proofs.Math.Option.{Option, some, none}
+use Rattle.std.specs.Prelude.{ℕ, suc, ◌≡◌, Bool, true, false, cond, List, [], ◌∷◌, None, Option, Some}
 use Rattle.model.specs.Slots.{Value, Hash, Slot, slot_eqb, mem, ReadAnchor, identified}
 use Rattle.model.specs.Contents.{or_else}
 use Rattle.model.specs.Advance.{Write}
@@ -14,8 +13,8 @@ Truth = ReadAnchor → Slot → Value
 
 -- The value that a list of writes ends with for a slot, or none if it does not name the slot.
 unfoldable pub last_value : Slot → List Write → Option Value
-last_value s [] = none
-last_value s (w ∷ ws) = or_else (last_value s ws) (cond (slot_eqb w.slot s) (some w.value) none)
+last_value s [] = None
+last_value s (w ∷ ws) = or_else (last_value s ws) (cond (slot_eqb w.slot s) (Some w.value) None)
 
 -- The slots that a list of writes names.
 unfoldable pub named_slots : List Write → List Slot
@@ -25,15 +24,15 @@ named_slots (w ∷ ws) = w.slot ∷ named_slots ws
 -- A list of writes that is true of its child.
 pub record TrueWrites (truth : Truth) (child : ReadAnchor) (parent_hash : Hash) (ws : List Write) : Type 0 where
   -- it ends with the child's value for every slot that it names
-  pub last_values_true : (s : Slot) (v : Value) → last_value s ws ≡ some v → v ≡ truth child s
+  pub last_values_true : (s : Slot) (v : Value) → last_value s ws ≡ Some v → v ≡ truth child s
   -- it names every slot that differs between the child and the block one below with the given parent hash; block 0 has none below
   pub names_every_change : (n : ℕ) → child.number ≡ suc n
       → (s : Slot) → (truth child s ≡ truth (identified n parent_hash) s → ⊥) → mem s (named_slots ws) ≡ true
 
 -- Every value of an answer is the true one at its anchor.
 abbrev pub TrueOutcome : Truth → ReadAnchor → Slot → Option Value → Type 0
-TrueOutcome truth a s none = Unit {0}
-TrueOutcome truth a s (some v) = v ≡ truth a s
+TrueOutcome truth a s None = Unit {0}
+TrueOutcome truth a s (Some v) = v ≡ truth a s
 
 abbrev pub TrueOutcomes : Truth → ReadAnchor → List Member → Type 0
 TrueOutcomes truth a [] = Unit {0}
@@ -67,13 +66,13 @@ TrueInputs truth (c ∷ cs) (false ∷ fs) = TrueCall truth c × TrueInputs trut
 
 -- The value that a slot is served with: what a look would answer.
 abbrev pub serves_value : Memory → Slot → Option Value
-serves_value none s = none
-serves_value (some st) s = served_value st.config.retention st.installed s
+serves_value None s = None
+serves_value (Some st) s = served_value st.config.retention st.installed s
 
 -- Every value served is the true one at the installed anchor.
 abbrev pub TrueGeneration : Truth → Memory → Option Generation → Type 0
-TrueGeneration truth m none = Unit {0}
-TrueGeneration truth m (some g) = (s : Slot) (v : Value) → serves_value m s ≡ some v → v ≡ truth g.anchor s
+TrueGeneration truth m None = Unit {0}
+TrueGeneration truth m (Some g) = (s : Slot) (v : Value) → serves_value m s ≡ Some v → v ≡ truth g.anchor s
 
 abbrev pub TrueMemory : Truth → Memory → Type 0
 TrueMemory truth m = TrueGeneration truth m (installed_in m)

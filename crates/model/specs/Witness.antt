@@ -1,8 +1,7 @@
 -- A run of true calls, which at its end serves a value put before a fold: the premises of demand 3's first part can hold.
 -- It has an advance to block 0, a skipped advance, a fork, a read with its answer, a refused call whose value is not true, a lapse and a fold.
-use Rattle.std.specs.Prelude.{ℕ, ◌≡◌, cond, List, [], ◌∷◌, map}
-use Rattle.std.proofs.Math.Option.{some, none}
-use Rattle.model.specs.Slots.{Address, Hash, U256, Slot, slot_eqb, hash_eqb, Known, ReadAnchor, identified, IdleBlocks}
+use Rattle.std.specs.Prelude.{ℕ, ◌≡◌, cond, List, [], ◌∷◌, map, None, Some}
+use Rattle.model.specs.Slots.{Address, Hash, U256, Slot, slot_eqb, hash_eqb, ReadAnchor, identified, IdleBlocks}
 use Rattle.model.specs.Advance.{Write, AppliedWrites, CarryOutcome, Carried, Cold, Linked, NoParent, ParentHashMismatch, Decoded, Rpc, CompactionReport, no_compaction}
 use Rattle.model.specs.Store.{get, put, read, AnchoredCall, on_slot, take, answer, install, advance, at_anchor, Call, open_store, on_store, opened, anchor_fresh, advanced, value, stored, waiting, listed, answered}
 use Rattle.model.specs.Refusals.{store_size, work_size, LentCall, Answer, refuse, ok, trace, final}
@@ -43,7 +42,7 @@ fork = identified 12 fork_hash
 
 -- W's value is the block's number; P's is 6 in the fork and else 5; any other slot's is 0.
 abbrev pub truth : Truth
-truth a s = cond (slot_eqb W s) (word a.number) (cond (slot_eqb P s) (cond (hash_eqb a.hash (Known fork_hash)) (word 6) (word 5)) (word 0))
+truth a s = cond (slot_eqb W s) (word a.number) (cond (slot_eqb P s) (cond (hash_eqb a.hash (Some fork_hash)) (word 6) (word 5)) (word 0))
 
 -- The lists of a canonical block above 0 and of the fork. No block is below block 0, so that its list may be empty.
 abbrev pub block_writes : ℕ → List Write
@@ -69,7 +68,7 @@ at_block n c = on_store (at_anchor (block n) c)
 
 -- An answer with a value of Q.
 abbrev pub answer_Q : ℕ → AnchoredCall
-answer_Q n = answer (record { slot = Q; outcome = some (word n) } ∷ [])
+answer_Q n = answer (record { slot = Q; outcome = Some (word n) } ∷ [])
 
 -- Capacity 16, depth limit 1, one idle block. The list of block 2 could not be had (skip 2). From block 11 the store goes to the fork and back
 -- to block 13, cold both times. There Q is read; the first answer, whose value is not the true one, comes before the take and is refused.
@@ -131,7 +130,7 @@ run_answers =
 -- P's value, put at block 13, folded and never written since, is served at block 16; Q is not.
 pub record Witness : Type 0 where
   pub true_inputs : TrueInputs truth (calls_of run) (refusal_flags run)
-  pub answers : trace none run ≡ run_answers
+  pub answers : trace None run ≡ run_answers
   pub untrue : word 9 ≡ truth (block 13) Q → ⊥
-  pub serves : serves_value (final none run) P ≡ some (word 5)
-  pub lapsed : serves_value (final none run) Q ≡ none
+  pub serves : serves_value (final None run) P ≡ Some (word 5)
+  pub lapsed : serves_value (final None run) Q ≡ None

@@ -1,4 +1,4 @@
-// The types that the store's code and its definitions share. Modules are named as the source's files.
+// The types that the store's code and its definitions share. Modules are named as the source's files; `refusal` is of no source file.
 #![tactic(auto)]
 
 ghost use Rattle.std.specs.Prelude.{◌≡◌, length};
@@ -9,6 +9,7 @@ ghost use Rattle.model.specs.Witness.{Witness};
 pub mod bal_prefetch;
 pub mod delta_snapshot;
 pub mod read_hub;
+pub mod refusal;
 pub mod storage_memo;
 
 // Demand 3 of the store on its definitions, and that its first part is not vacuous. The contract is the theorem, so that the gate fails without its proof.

@@ -2,7 +2,7 @@
 use crate::bal_prefetch::BalSkip;
 
 // How a child stands to the installed anchor: linked, or the reason why not (the source's `CarryRefusal`).
-#[derive(Clone, Copy)]
+#[derive(Clone, Copy, Debug, PartialEq, Eq)]
 pub enum Lineage {
     Linked,
     NoParent,
@@ -12,7 +12,7 @@ pub enum Lineage {
 }
 
 // What an advance did.
-#[derive(Clone, Copy)]
+#[derive(Clone, Copy, Debug, PartialEq, Eq)]
 pub enum CarryOutcome {
     AlreadyCurrent,
     Carried(u64),
@@ -20,7 +20,7 @@ pub enum CarryOutcome {
 }
 
 // The running totals of a generation's reads.
-#[derive(Clone, Copy)]
+#[derive(Clone, Copy, Debug, PartialEq, Eq)]
 pub struct ReadTotals {
     pub accepted: u64,
     pub served: u64,

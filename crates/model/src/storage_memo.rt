@@ -3,7 +3,7 @@ ghost use Rattle.std.specs.Prelude.{◌≡◌};
 ghost use Rattle.model.specs.Slots.{at, identified};
 
 // A 20-byte address as three words, the highest first.
-#[derive(Clone, Copy)]
+#[derive(Clone, Copy, Debug, PartialEq, Eq, PartialOrd, Ord)]
 pub struct Address {
     pub w0: u32,
     pub w1: u64,
@@ -11,7 +11,7 @@ pub struct Address {
 }
 
 // A 32-byte number as four words, the highest first.
-#[derive(Clone, Copy)]
+#[derive(Clone, Copy, Debug, PartialEq, Eq, PartialOrd, Ord)]
 pub struct U256 {
     pub w0: u64,
     pub w1: u64,
@@ -22,18 +22,11 @@ pub struct U256 {
 // A block's hash.
 pub type B256 = U256;
 
-// The canonical hash of an anchor's block, where the caller has it.
-#[derive(Clone, Copy)]
-pub enum BlockHash {
-    Unknown,
-    Known(B256),
-}
-
-// The block that values are read at.
-#[derive(Clone, Copy)]
+// The block that values are read at: its number, and its canonical hash where the caller has it.
+#[derive(Clone, Copy, Debug, PartialEq, Eq)]
 pub struct ReadAnchor {
     pub number: u64,
-    pub hash: BlockHash,
+    pub hash: Option<B256>,
 }
 
 impl ReadAnchor {
@@ -41,10 +34,7 @@ impl ReadAnchor {
     pub fn at(number: u64) -> Self
         ensures { result ≡ at number }
     {
-        Self {
-            number,
-            hash: BlockHash::Unknown,
-        }
+        Self { number, hash: None }
     }
 
     // The anchor of a number, identified by its hash.
@@ -53,7 +43,7 @@ impl ReadAnchor {
     {
         Self {
             number,
-            hash: BlockHash::Known(hash),
+            hash: Some(hash),
         }
     }
 }

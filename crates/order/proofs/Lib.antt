@@ -4,7 +4,6 @@ pub mod NumberLaws
 pub mod RecordLaws
 pub mod MergeLaws
 pub mod SortLaws
-pub mod PartLaws
 pub mod FieldLaws
 pub mod CountLaws
 pub mod WalkLaws

@@ -16,7 +16,8 @@ use Rattle.order.specs.Index.All.{nil, add}
 use Rattle.order.specs.Index.Rises.{rise}
 use Rattle.order.proofs.IndexLaws.{all_more}
 use Rattle.order.proofs.MergeLaws.{pick_above}
-use Rattle.order.specs.Walk.{bit_of, last_of}
+use Rattle.std.specs.Int.{from_bool}
+use Rattle.order.specs.Walk.{last_of}
 use Rattle.order.proofs.CountLaws.{mem, count, count_ext, count_mems}
 
 -- What f gathers along a list.
@@ -27,7 +28,7 @@ along f a (x ∷ xs) = along f (f a x) xs
 -- The walk: f gathers along a group, t asks at its end, z starts the next.
 unfoldable pub walk : {A : Type 0} → (A → ℕ → A) → A → (A → Bool) → List ℕ → A → List ℕ → ℕ
 walk f z t ss a [] = 0
-walk f z t ss a (x ∷ xs) = cond (last_of ss (x ∷ xs)) (bit_of (t (f a x)) + walk f z t ss z xs) (walk f z t ss (f a x) xs)
+walk f z t ss a (x ∷ xs) = cond (last_of ss (x ∷ xs)) (from_bool (t (f a x)) + walk f z t ss z xs) (walk f z t ss (f a x) xs)
 
 -- Groups of numbers ordered by slot ---------------------------------------------------------------------------
 
@@ -56,7 +57,7 @@ unfolding mem last_of
 next_same ss x [] r e = absurd (true≢false e)
 next_same ss x (y ∷ ys) r e = rw (eq-eqb (get_or ss y 0) (get_or ss x 0) (sym (next_equal ss x y ys r e)))
 
-bit_add : (b : Bool) (c : ℕ) → bit_of b + c ≡ cond b (suc c) c
+bit_add : (b : Bool) (c : ℕ) → from_bool b + c ≡ cond b (suc c) c
 bit_add true c = omega arith
 bit_add false c = omega arith
 
@@ -110,15 +111,15 @@ module _ {A : Type 0} (f : A → ℕ → A) (z : A) (t : A → Bool) (ss : List 
           let test : P v0 ≡ t (f a x) = at_last a x xs (pick_above ss v0 (suc v0) (omega arith) xs ab) in
           let apart : (v : ℕ) → mem v L ≡ true → eqb v0 v ≡ false = λ v q. split (eqb v0 v) (λ d. absurd (true≢false (sym q ∙ rw (← eqb-true v0 v d) m))) (λ d. d) in
           let ext : count (λ v. t (along f (begun z z ss xs v) (pick ss v xs))) L ≡ count P L = count_ext (λ v. t (along f (begun z z ss xs v) (pick ss v xs))) P L (λ v q. sym (other a z x xs v (apart v q) (begun_same z ss xs v))) in
-          ap (λ (k : Bool). cond k (bit_of (t (f a x)) + walk f z t ss z xs) (walk f z t ss (f a x) xs)) e
-          ∙ ap (λ (k : ℕ). bit_of (t (f a x)) + k) (ih ∙ ext) ∙ bit_add (t (f a x)) (count P L)
+          ap (λ (k : Bool). cond k (from_bool (t (f a x)) + walk f z t ss z xs) (walk f z t ss (f a x) xs)) e
+          ∙ ap (λ (k : ℕ). from_bool (t (f a x)) + k) (ih ∙ ext) ∙ bit_add (t (f a x)) (count P L)
           ∙ ap (λ (k : Bool). cond k (suc (count P L)) (count P L)) (sym test ∙ sym (ap (λ (k : Bool). P v0 && not k) m ∙ and_true (P v0)))
 
       no : walk f z t ss (f a x) xs ≡ count (λ v. t (along f (begun z (f a x) ss xs v) (pick ss v xs))) L → last_of ss (x ∷ xs) ≡ false → walk f z t ss a (x ∷ xs) ≡ count P (v0 ∷ L)
       no ih e =
           let m : mem v0 L ≡ true = next_same ss x xs (rise b r) e in
           let ext : count (λ v. t (along f (begun z (f a x) ss xs v) (pick ss v xs))) L ≡ count P L = count_ext (λ v. t (along f (begun z (f a x) ss xs v) (pick ss v xs))) P L (λ v q. same_begun a x xs v (rise b r) e) in
-          ap (λ (k : Bool). cond k (bit_of (t (f a x)) + walk f z t ss z xs) (walk f z t ss (f a x) xs)) e
+          ap (λ (k : Bool). cond k (from_bool (t (f a x)) + walk f z t ss z xs) (walk f z t ss (f a x) xs)) e
           ∙ ih ∙ ext ∙ ap (λ (k : Bool). cond k (suc (count P L)) (count P L)) (sym (ap (λ (k : Bool). P v0 && not k) m ∙ and_false (P v0)))
 
 -- From the index to the records as they stand ------------------------------------------------------------------
@@ -218,7 +219,7 @@ last_next ss ix j h =
     rw (add-one j, drop-cons ix j 0 g, drop-cons ix (suc j) 0 k)
 
 module _ {A : Type 0} (f : A → ℕ → A) (z : A) (t : A → Bool) (ss ix : List ℕ) (a : A) (j : ℕ) (h : j < length ix) where
-  pub walk_last : last_of ss (drop j ix) ≡ true → walk f z t ss a (drop j ix) ≡ bit_of (t (f a (get_or ix j 0))) + walk f z t ss z (drop (j + 1) ix)
+  pub walk_last : last_of ss (drop j ix) ≡ true → walk f z t ss a (drop j ix) ≡ from_bool (t (f a (get_or ix j 0))) + walk f z t ss z (drop (j + 1) ix)
   unfolding walk
   walk_last e = rw (add-one j, drop-cons ix j 0 h) (rw (rw (drop-cons ix j 0 h) at e))
 
@@ -227,11 +228,11 @@ module _ {A : Type 0} (f : A → ℕ → A) (z : A) (t : A → Bool) (ss ix : Li
   walk_more e = rw (add-one j, drop-cons ix j 0 h) (rw (rw (drop-cons ix j 0 h) at e))
 
   -- A turn of a loop that walks, with c counted
-  pub turn_last : (c d w : ℕ) (a' b : A) → c + walk f z t ss a (drop j ix) ≡ w → a' ≡ f a (get_or ix j 0) → last_of ss (drop j ix) ≡ true → d ≡ c + bit_of (t a') → b ≡ z → d + walk f z t ss b (drop (j + 1) ix) ≡ w
+  pub turn_last : (c d w : ℕ) (a' b : A) → c + walk f z t ss a (drop j ix) ≡ w → a' ≡ f a (get_or ix j 0) → last_of ss (drop j ix) ≡ true → d ≡ c + from_bool (t a') → b ≡ z → d + walk f z t ss b (drop (j + 1) ix) ≡ w
   turn_last c d w a' b inv ea e ed eb =
-      let p : walk f z t ss a (drop j ix) ≡ bit_of (t (f a (get_or ix j 0))) + walk f z t ss z (drop (j + 1) ix) = walk_last e in
+      let p : walk f z t ss a (drop j ix) ≡ from_bool (t (f a (get_or ix j 0))) + walk f z t ss z (drop (j + 1) ix) = walk_last e in
       let q : walk f z t ss b (drop (j + 1) ix) ≡ walk f z t ss z (drop (j + 1) ix) = ap (λ (k : A). walk f z t ss k (drop (j + 1) ix)) eb in
-      let r : bit_of (t a') ≡ bit_of (t (f a (get_or ix j 0))) = ap (λ (k : A). bit_of (t k)) ea in
+      let r : from_bool (t a') ≡ from_bool (t (f a (get_or ix j 0))) = ap (λ (k : A). from_bool (t k)) ea in
       omega arith
 
   pub turn_more : (c d w : ℕ) (a' b : A) → c + walk f z t ss a (drop j ix) ≡ w → a' ≡ f a (get_or ix j 0) → last_of ss (drop j ix) ≡ false → d ≡ c → b ≡ a' → d + walk f z t ss b (drop (j + 1) ix) ≡ w
@@ -240,7 +241,7 @@ module _ {A : Type 0} (f : A → ℕ → A) (z : A) (t : A → Bool) (ss ix : Li
       let q : walk f z t ss b (drop (j + 1) ix) ≡ walk f z t ss (f a (get_or ix j 0)) (drop (j + 1) ix) = ap (λ (k : A). walk f z t ss k (drop (j + 1) ix)) (eb ∙ ea) in
       omega arith
 
-pub bit_small : (b : Bool) → bit_of b ≤ 1
+pub bit_small : (b : Bool) → from_bool b ≤ 1
 bit_small true = omega arith
 bit_small false = omega arith
 

@@ -1,3 +1,4 @@
 -- The index that the contracts of `order` cite.
 pub mod Index
 pub mod Walk
+pub mod Lent

@@ -1,10 +1,5 @@
 -- What a walk over record numbers that are ordered by slot asks: whether a record is the last of its slot.
-use Rattle.std.specs.Prelude.{ℕ, Bool, true, false, not, List, [], ◌∷◌, leb, get_or}
-
--- 1 for true, 0 for false.
-abbrev pub bit_of : Bool → ℕ
-bit_of true = 1
-bit_of false = 0
+use Rattle.std.specs.Prelude.{ℕ, Bool, true, not, List, [], ◌∷◌, leb, get_or}
 
 -- Whether the first number is the last of its slot.
 unfoldable pub last_of : List ℕ → List ℕ → Bool

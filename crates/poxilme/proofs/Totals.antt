@@ -1,14 +1,13 @@
 -- The read totals of a store's bytes: those of its generation, or 21 where there is none. Assumes nothing.
+use Rattle.std.specs.Prelude.{None, Option, Some, is_some}
 use Prim.Native.Nat.{ℕ, ◌≤◌}
 use mathlib.Core.Path.{◌≡◌, refl, sym, ap, ◌∙◌}
 use mathlib.Core.Bool.{Bool, true, false}
 use mathlib.Core.List.{List}
-use mathlib.Core.Option.{Option, some, none}
 use native.Mathlib.Omega.{arith}
 use lib.ListN.{length}
 use Rattle.layout.specs.Layout.{ends_offset}
 use Rattle.model.specs.declared.read_hub.ReadTotals.{ReadTotals}
-use Rattle.model.specs.Contents.{is_some}
 use Rattle.model.specs.Store.{Generation, Memory}
 use Rattle.image.specs.Image.{decode, read_generation, totals_words}
 use Rattle.image.specs.Lent.{words_in, store_of, generation_of, IsStore}
@@ -27,13 +26,13 @@ unfolding generation_of words_in read_generation
 totals_read b = sym (totals_of_words _ b (omega arith))
 
 no_generation : (o : Option Generation) → is_some o ≡ false → installed_totals o ≡ refused_by 21
-no_generation none e = refl
-no_generation (some g) e = let z : ◌≡◌ {A = ℕ} 0 1 = cc in absurd (omega arith)
+no_generation None e = refl
+no_generation (Some g) e = let z : ◌≡◌ {A = ℕ} 0 1 = cc in absurd (omega arith)
 
 -- Bytes that are no store.
 pub no_store : (m : Memory) → is_some m ≡ false → totals_given m ≡ refused_by 20
-no_store none e = refl
-no_store (some st) e = let z : ◌≡◌ {A = ℕ} 0 1 = cc in absurd (omega arith)
+no_store None e = refl
+no_store (Some st) e = let z : ◌≡◌ {A = ℕ} 0 1 = cc in absurd (omega arith)
 
 -- Of the test whether a generation is installed.
 module _ (b : List ℕ) (e : IsStore b) {r : Bool} (q : r ≡ is_some (store_of b).installed) where

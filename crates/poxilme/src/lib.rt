@@ -2,8 +2,7 @@
 // A call gives 0, or its refusal's number; the words of an accepted call's reply stand in `reply`. Arguments that are too short are refused by 9, before every other refusal.
 #![tactic(auto)]
 
-ghost use Rattle.std.specs.Prelude.{◌≡◌, true, ◌≤◌, ◌/◌, length};
-ghost use Rattle.model.specs.Contents.{is_some};
+ghost use Rattle.std.specs.Prelude.{◌≡◌, true, ◌≤◌, ◌/◌, length, is_some};
 ghost use Rattle.model.specs.Store as calls;
 ghost use Rattle.image.specs.Image.{decode};
 ghost use Rattle.image.specs.Lent.{IsStore};
@@ -14,6 +13,7 @@ ghost use Rattle.lent_calls.specs.ReplyWords.{Gives, totals_given};
 ghost use Rattle.lent_calls.specs.Exported.{lent_final, Keeps, Exported, ExportedOutput, ExportedRun, ExportedFinal};
 ghost use Rattle.lent_calls.specs.Steps.{lent_open, lent_install, lent_slot, lent_put, lent_advance, lent_take, lent_answer, lent_failed, lent_totals};
 
+use model::delta_snapshot::Retention;
 use reader::Cursor;
 
 // The bytes of a store of a capacity, and of an advance's work area; 0 for a capacity that an open refuses.
@@ -56,8 +56,8 @@ pub extern "C" fn poxilme_open(
     if 1 < bounded {
         return 3;
     }
-    let retention = lent_calls::retention(bounded, idle);
-    lent_calls::open_code(store::open(s, capacity, max_depth, retention))
+    let retention = Retention::of_words(bounded, idle);
+    lent_calls::code(store::open(s, capacity, max_depth, retention))
 }
 
 // `store::install`.
@@ -128,7 +128,7 @@ pub extern "C" fn poxilme_put(
     }
     let anchor = lent_calls::anchor(number, hash);
     let r = store::put(s, anchor, lent_calls::slot(slot), lent_calls::value(value));
-    lent_calls::put_code(r)
+    lent_calls::code(r)
 }
 
 // `store::advance`; number and hash are the child's.
@@ -293,9 +293,8 @@ pub extern "C" fn poxilme_look_unchecked(
         return 9;
     }
     let t = lent_calls::slot(slot);
-    let n = header::guard_lent(s, number, hash);
-    if n != 0 {
-        return n;
+    if let Err(refusal) = header::guard_lent(s, number, hash) {
+        return refusal.number();
     }
     let place = records::place_of(layers::top_number(s, t));
     let found = layers::served_row(s, place, t);
@@ -323,9 +322,8 @@ pub extern "C" fn poxilme_get_unchecked(
         return 9;
     }
     let t = lent_calls::slot(slot);
-    let n = header::guard_lent(s, number, hash);
-    if n != 0 {
-        return n;
+    if let Err(refusal) = header::guard_lent(s, number, hash) {
+        return refusal.number();
     }
     let place = records::place_of(layers::top_number(s, t));
     let found = layers::served_row(s, place, t);
@@ -359,7 +357,7 @@ pub extern "C" fn poxilme_put_unchecked(
     }
     let anchor = lent_calls::anchor(number, hash);
     let r = unchecked_calls::put(s, anchor, lent_calls::slot(slot), lent_calls::value(value));
-    lent_calls::put_code(r)
+    lent_calls::code(r)
 }
 
 // `poxilme_advance`, likewise.

@@ -1,9 +1,9 @@
 -- Demand 3 over any list of public calls: each is a call on the state that the bytes read as. Assumes nothing.
+use Rattle.std.specs.Prelude.{None, Option, Some}
 use Prim.Native.Nat.{ℕ, max}
 use mathlib.Core.Path.{◌≡◌, refl, sym, ap, subst, ◌∙◌}
 use mathlib.Core.Bool.{true}
 use mathlib.Core.List.{List, [], ◌∷◌}
-use mathlib.Core.Option.{Option, some, none}
 use native.Mathlib.Omega.{arith}
 use lib.ListN.{length}
 use Rattle.model.specs.declared.delta_snapshot.Retention.{Retention}
@@ -72,11 +72,11 @@ run_of_calls (called {c = c} {a = a} m rest) l r = agrees_next a (effect_agrees 
 
 -- An accepted open leaves a store with nothing installed, whatever the bytes were.
 accepted : (r : Option ℕ) (m : Memory) (k : Accepted) (t : model.Report) → ok t ≡ (conclude r m k).answer → (conclude r m k).memory ≡ k.memory
-accepted none m k t e = refl
-accepted (some n) m k t e = let z : ◌≡◌ {A = ℕ} 0 1 = cc in absurd (omega arith)
+accepted None m k t e = refl
+accepted (Some n) m k t e = let z : ◌≡◌ {A = ℕ} 0 1 = cc in absurd (omega arith)
 
 open_agrees : (b : List ℕ) {after : List ℕ} (capacity depth : ℕ) (R : Retention) → Made (open_store capacity depth R) b after (ok opened)
-    → RunAgrees (ok opened ∷ []) (decode after) none (model.open_store capacity depth R ∷ [])
+    → RunAgrees (ok opened ∷ []) (decode after) None (model.open_store capacity depth R ∷ [])
 unfolding step accept ledger_trace ledger_final ledger_step
 open_agrees b {after} capacity depth R m =
     let p : PublicCall = open_store capacity depth R in
@@ -86,13 +86,13 @@ open_agrees b {after} capacity depth R m =
     let e : decode after ≡ (accept (decode b) c).memory = reads_as p b m.0 m.1 ∙ accepted (refusal (decode b) k.lent c) (decode b) (accept (decode b) c) opened (answers_as p b m.1) in
     record {
       same_answers = refl;
-      relation = subst (λ (x : Memory). MemoryRelation x (some (record { retention = R; installed = none }))) (sym e) (both_open cfg both_empty);
+      relation = subst (λ (x : Memory). MemoryRelation x (Some (record { retention = R; installed = None }))) (sym e) (both_open cfg both_empty);
       keeps_true = λ truth t q. tt;
     }
 
 -- The theorem -------------------------------------------------------------------------------------------
 
-met : {cs : List PublicCall} {answers : List Answer} {after : List ℕ} → RunAgrees answers (decode after) none (model_calls cs) → Demand3Met cs answers after
+met : {cs : List PublicCall} {answers : List Answer} {after : List ℕ} → RunAgrees answers (decode after) None (model_calls cs) → Demand3Met cs answers after
 met z = record {
   first = λ truth q. true_memory truth z.relation (z.keeps_true truth tt q);
   same_answers = z.same_answers;
@@ -107,5 +107,5 @@ pub demand_for_calls : DemandForCalls
 demand_for_calls =
     record {
       from_open = λ b after capacity depth R cs answers r. from_open r;
-      from_no_store = λ b after cs answers e r. met (run_of_calls r none (subst (λ (x : Memory). MemoryRelation x none) (sym e) no_store));
+      from_no_store = λ b after cs answers e r. met (run_of_calls r None (subst (λ (x : Memory). MemoryRelation x None) (sym e) no_store));
     }

@@ -1,6 +1,5 @@
 -- Demand 3 over any list of calls of the public functions, refused ones of every kind included.
-use Rattle.std.specs.Prelude.{ℕ, ◌≡◌, List, ◌∷◌, map}
-use Rattle.std.proofs.Math.Option.{none}
+use Rattle.std.specs.Prelude.{ℕ, ◌≡◌, List, ◌∷◌, map, None}
 use Rattle.model.specs.declared.delta_snapshot.Slot.{Slot}
 use Rattle.model.specs.declared.delta_snapshot.Retention.{Retention}
 use Rattle.model.specs.Store.{opened}
@@ -15,9 +14,9 @@ pub record Demand3Met (cs : List PublicCall) (answers : List Answer) (after : Li
   -- if the accepted calls are true, every value served is true at the installed anchor
   pub first : (truth : Truth) → TrueInputs truth (model_calls cs) (map refused answers) → TrueMemory truth (decode after)
   -- each accepted answer equals the ledger's in all that is compared
-  pub same_answers : map compared answers ≡ ledger_trace none (model_calls cs) (map refused answers)
+  pub same_answers : map compared answers ≡ ledger_trace None (model_calls cs) (map refused answers)
   -- the store serves exactly the slots and values of the ledger
-  pub serves : (s : Slot) → serves_value (decode after) s ≡ ledger_serves (ledger_final none (model_calls cs) (map refused answers)) s
+  pub serves : (s : Slot) → serves_value (decode after) s ≡ ledger_serves (ledger_final None (model_calls cs) (map refused answers)) s
 
 pub record DemandForCalls : Type 0 where
   -- bytes of any content, from an accepted open on
@@ -25,4 +24,4 @@ pub record DemandForCalls : Type 0 where
       → Run b (open_store capacity depth R ∷ cs) (ok opened ∷ answers) after → Demand3Met (open_store capacity depth R ∷ cs) (ok opened ∷ answers) after
   -- bytes that are no store, from the first call on
   pub from_no_store : (b after : List ℕ) (cs : List PublicCall) (answers : List Answer)
-      → decode b ≡ none → Run b cs answers after → Demand3Met cs answers after
+      → decode b ≡ None → Run b cs answers after → Demand3Met cs answers after

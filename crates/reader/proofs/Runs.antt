@@ -1,24 +1,27 @@
 -- Entries: runs of them, and the lists that they stand for. Assumes nothing.
-use mathlib.Core.Path.{◌≡◌, refl, sym, ap, ◌∙◌}
+use mathlib.Core.Path.{◌≡◌, refl, sym, ap, subst, ◌∙◌}
 use mathlib.Core.Bool.{Bool, true, false, cond}
 use mathlib.Core.List.{List, [], ◌∷◌}
-use mathlib.Core.Option.{Option, some, none}
-use Prim.Native.Nat.{ℕ, zero, suc, ◌+◌, ◌-◌, ◌*◌, ◌/◌, ◌≤◌, ◌<◌}
-use native.Mathlib.Nat.{div-lt_iff_lt-mul, le-div_iff_mul-le, zero-mul, suc-mul}
+use Prim.Native.Nat.{ℕ, zero, suc, ◌+◌, ◌*◌, ◌≤◌, ◌<◌}
+use native.Mathlib.Nat.{zero-mul, suc-mul}
 use native.Mathlib.Omega.{arith}
 use borrow.Author.Tests.{le-leb, lt-leb, leb-true, leb-false}
 use lib.Dec.{leb, ltb, eqb}
 use lib.ListN.{length, take, drop, get_or, length-drop}
 use lib.Seq.{drop-drop, get_or-drop}
+use Rattle.std.specs.Prelude.{Result, None, Option, Some}
 use Rattle.model.specs.declared.storage_memo.U256.{U256}
 use Rattle.model.specs.declared.delta_snapshot.Slot.{Slot}
 use Rattle.model.specs.Reads.{Member}
-use Rattle.call_list.specs.CallList.{Parsed, parsed, fault, then, parse_number, parse_form, parse_entries, parse_list, parse_u256, parse_slot, parse_outcome, parse_member}
+use Rattle.call_list.specs.CallList.{Parsed, parsed, fault, then, parse_number, parse_bytes, parse_form, parse_entries, parse_list, parse_u256, parse_outcome, parse_member}
 use Rattle.model.specs.Entries.{u256_at, slot_of}
-use Rattle.reader.specs.Answers.{Reading, Run, entries, members, member_of, member_size, fixed_run, past_value, past_members, member_run, parse_run}
+use Rattle.reader.specs.declared.Span.{Span}
+use Rattle.reader.specs.declared.FaultKind.{FaultKind}
+use Rattle.reader.specs.declared.Reader.{Reader}
+use Rattle.reader.specs.Answers.{Run, entries, members, members_at, member_of, member_size, run_at, fixed_run, past_members, member_run, parse_run}
+use Rattle.reader.specs.Reading.{Reads, rest}
 use Rattle.words.specs.Parts.{part}
-use Rattle.reader.proofs.Bytes.{fixed, at_end}
-use Rattle.reader.proofs.Chain.{reading_as, reading_map, reading_stop}
+use Rattle.reader.proofs.Chain.{reads_seen}
 
 split : {P : Type 0} (b : Bool) → (b ≡ true → P) → (b ≡ false → P) → P
 split true y n = y refl
@@ -26,22 +29,9 @@ split false y n = n refl
 
 -- Entries of w bytes each ------------------------------------------------------------------------------
 
-module _ (w n at : ℕ) (s : List ℕ) (p : 0 < w) where
-  pub run_fits : n ≤ (length s - at) / w → n * w ≤ length s - at
-  run_fits h = (le-div_iff_mul-le p).0 h
-
-  pub run_end : (length s - at) / w < n → fixed_run w n (drop at s) ≡ fault 5 (drop (length s) s)
-  run_end h =
-      let k : length s - at < n * w = (div-lt_iff_lt-mul p).0 h in
-      let e : leb (n * w) (length (drop at s)) ≡ false = lt-leb (n * w) (length (drop at s)) (simp length-drop k) in
-      ap (λ (b : Bool). cond b (parsed (record { count = n; bytes = drop at s }) (drop (n * w) (drop at s))) (fault 5 [])) e ∙ sym (at_end s)
-
-  pub run_there : n ≤ (length s - at) / w → fixed_run w n (drop at s) ≡ parsed (record { count = n; bytes = drop at s }) (drop (at + n * w) s)
-  run_there h =
-      let k : n * w ≤ length s - at = run_fits h in
-      let e : leb (n * w) (length (drop at s)) ≡ true = le-leb (n * w) (length (drop at s)) (simp length-drop k) in
-      ap (λ (b : Bool). cond b (parsed (record { count = n; bytes = drop at s }) (drop (n * w) (drop at s))) (fault 5 [])) e
-      ∙ ap (parsed (record { count = n; bytes = drop at s })) (drop-drop (n * w) at s)
+-- a thing of n bytes
+abbrev pub fixed : {A : Type 0} → (List ℕ → A) → ℕ → List ℕ → Parsed A
+fixed f n l = then (parse_bytes n l) (λ b r. parsed (f b) r)
 
 module _ {A : Type 0} (f : List ℕ → A) (w : ℕ) where
   one_there : (l : List ℕ) → w ≤ length l → fixed f w l ≡ parsed (f (take w l)) (drop w l)
@@ -93,13 +83,10 @@ module _ {A : Type 0} (f : List ℕ → A) (w : ℕ) where
   counted (parsed n l) = entries_run n l
 
   -- a list of entries, by its run
-  pub reading_list : {t : Run} {r : List ℕ} {at next end : ℕ} (l : List ℕ)
-      → Reading (parsed t r) (parse_run (fixed_run w) l) at next end → Reading (parsed (of_run t) r) (parse_list (fixed f w) l) at next end
-  reading_list l v = reading_as (counted (parse_number l)) (reading_map of_run v)
-
-  pub reading_list_stop : {n at next end : ℕ} {q : List ℕ} (l : List ℕ)
-      → Reading (fault n q) (parse_run (fixed_run w) l) at next end → Reading (fault n q) (parse_list (fixed f w) l) at next end
-  reading_list_stop l v = reading_as (counted (parse_number l)) (reading_stop (λ t r. parsed (of_run t) r) v)
+  pub reads_list : {list s : List ℕ} {r : Result Span FaultKind} {before after : Reader}
+      → list ≡ s → Reads (run_at list) r (parse_run (fixed_run w)) before after → Reads (λ p. entries f w p.count (drop p.start s)) r (parse_list (fixed f w)) before after
+  reads_list {r = r} {before = before} {after = after} e v =
+      subst (λ z. Reads (λ (p : Span). entries f w p.count (drop p.start z)) r (parse_list (fixed f w)) before after) e (reads_seen of_run (counted (parse_number (rest before))) v)
 
 -- the first of the entries from a place on, and those after it
 pub entries_turn : {A : Type 0} (f : List ℕ → A) (w n j at : ℕ) (s : List ℕ) → n ≡ suc j
@@ -123,23 +110,6 @@ after_form x f q = then (parse_outcome f q) (after_outcome x)
 abbrev after_slot : Slot → List ℕ → Parsed Member
 after_slot x r = then (parse_form r) (after_form x)
 
--- past one member, part by part
-past_outcome : (x : Slot) (p : Parsed (Option U256)) → then p nothing ≡ then (then p (after_outcome x)) nothing
-past_outcome x (fault n q) = refl
-past_outcome x (parsed o r) = refl
-
-past_form : (x : Slot) (p : Parsed Bool) → then p past_value ≡ then (then p (after_form x)) nothing
-past_form x (fault n q) = refl
-past_form x (parsed f q) = past_outcome x (parse_outcome f q)
-
-past_slot : (p : Parsed Slot) → then p (λ x r. then (parse_form r) past_value) ≡ then (then p after_slot) nothing
-past_slot (fault n q) = refl
-past_slot (parsed x r) = past_form x (parse_form r)
-
-pub past_one : (l : List ℕ) → then (parse_slot l) (λ x r. then (parse_form r) past_value) ≡ past_members 1 l
-unfolding past_members
-past_one l = past_slot (parse_slot l)
-
 -- a turn of the loop
 flat : (j : ℕ) (p : Parsed Member) → then p (λ m r. past_members j r) ≡ then (then p nothing) (λ z r. past_members j r)
 flat j (fault n q) = refl
@@ -152,22 +122,22 @@ past_turn k j l e = ap (λ (n : ℕ). past_members n l) e ∙ flat j (parse_memb
 -- A member is one that stands at the list's start, or a fault.
 module _ {P : Type 0} (l : List ℕ) (yes : parse_member l ≡ parsed (member_of l) (drop (member_size l) l) → P) (no : (n : ℕ) (r : List ℕ) → parse_member l ≡ fault n r → P) where
   abbrev stands : Bool → Parsed Member
-  stands k = parsed (record { slot = slot_of (take 52 l); outcome = cond k (some (u256_at 0 (take 32 (drop 53 l)))) none }) (drop (cond k 85 53) l)
+  stands k = parsed (record { slot = slot_of (take 52 l); outcome = cond k (Some (u256_at 0 (take 32 (drop 53 l)))) None }) (drop (cond k 85 53) l)
 
-  with_value : (q : List ℕ) → drop 53 l ≡ q → eqb (get_or l 52 0) 1 ≡ true → parse_member l ≡ then (then (parse_u256 q) (λ v r. parsed (some v) r)) (after_outcome (slot_of (take 52 l))) → P
+  with_value : (q : List ℕ) → drop 53 l ≡ q → eqb (get_or l 52 0) 1 ≡ true → parse_member l ≡ then (then (parse_u256 q) (λ v r. parsed (Some v) r)) (after_outcome (slot_of (take 52 l))) → P
   with_value q e f m =
       split (leb 32 (length q))
       (λ t.
       let p : parse_u256 q ≡ parsed (u256_at 0 (take 32 q)) (drop 32 q) = one_there (u256_at 0) 32 q (leb-true 32 (length q) t) in
       yes
       (m
-      ∙ ap (λ z. then (then z (λ v r. parsed (some v) r)) (after_outcome (slot_of (take 52 l)))) p
-      ∙ ap (λ (z : List ℕ). parsed (record { slot = slot_of (take 52 l); outcome = some (u256_at 0 (take 32 z)) }) (drop 32 z)) (sym e)
-      ∙ ap (parsed (record { slot = slot_of (take 52 l); outcome = some (u256_at 0 (take 32 (drop 53 l))) })) (drop-drop 32 53 l)
+      ∙ ap (λ z. then (then z (λ v r. parsed (Some v) r)) (after_outcome (slot_of (take 52 l)))) p
+      ∙ ap (λ (z : List ℕ). parsed (record { slot = slot_of (take 52 l); outcome = Some (u256_at 0 (take 32 z)) }) (drop 32 z)) (sym e)
+      ∙ ap (parsed (record { slot = slot_of (take 52 l); outcome = Some (u256_at 0 (take 32 (drop 53 l))) })) (drop-drop 32 53 l)
       ∙ ap stands (sym f)))
       (λ t.
       let p : parse_u256 q ≡ fault 5 [] = one_end (u256_at 0) 32 q (leb-false 32 (length q) t) in
-      no 5 [] (m ∙ ap (λ z. then (then z (λ v r. parsed (some v) r)) (after_outcome (slot_of (take 52 l)))) p))
+      no 5 [] (m ∙ ap (λ z. then (then z (λ v r. parsed (Some v) r)) (after_outcome (slot_of (take 52 l)))) p))
 
   with_form : (b : ℕ) (q : List ℕ) → get_or l 52 0 ≡ b → drop 53 l ≡ q → parse_member l ≡ then (parse_outcome (eqb b 1) q) (after_outcome (slot_of (take 52 l))) → P
   with_form b q eb eq m =
@@ -177,7 +147,7 @@ module _ {P : Type 0} (l : List ℕ) (yes : parse_member l ≡ parsed (member_of
       yes
       (m
       ∙ ap (λ (k : Bool). then (parse_outcome k q) (after_outcome (slot_of (take 52 l)))) t
-      ∙ ap (parsed (record { slot = slot_of (take 52 l); outcome = none })) (sym eq)
+      ∙ ap (parsed (record { slot = slot_of (take 52 l); outcome = None })) (sym eq)
       ∙ ap stands (sym (ap (λ (k : ℕ). eqb k 1) eb ∙ t))))
 
   with_slot : (q : List ℕ) → drop 52 l ≡ q → parse_member l ≡ then (parse_form q) (after_form (slot_of (take 52 l))) → P
@@ -231,13 +201,10 @@ counted_members (fault k q) = refl
 counted_members (parsed n l) = of_members n l (past_members n l) ∙ members_past n l
 
 -- a list of members, by its run
-pub reading_members : {t : Run} {r : List ℕ} {at next end : ℕ} (l : List ℕ)
-    → Reading (parsed t r) (parse_run member_run l) at next end → Reading (parsed (members_of t) r) (parse_list parse_member l) at next end
-reading_members l v = reading_as (counted_members (parse_number l)) (reading_map members_of v)
-
-pub reading_members_stop : {n at next end : ℕ} {q : List ℕ} (l : List ℕ)
-    → Reading (fault n q) (parse_run member_run l) at next end → Reading (fault n q) (parse_list parse_member l) at next end
-reading_members_stop l v = reading_as (counted_members (parse_number l)) (reading_stop (λ t r. parsed (members_of t) r) v)
+pub reads_members : {list s : List ℕ} {r : Result Span FaultKind} {before after : Reader}
+    → list ≡ s → Reads (run_at list) r (parse_run member_run) before after → Reads (members_at s) r (parse_list parse_member) before after
+reads_members {r = r} {before = before} {after = after} e v =
+    subst (λ z. Reads (members_at z) r (parse_list parse_member) before after) e (reads_seen members_of (counted_members (parse_number (rest before))) v)
 
 -- the first of the members from a place on, and those after it
 pub members_turn : (n j at : ℕ) (s : List ℕ) → n ≡ suc j

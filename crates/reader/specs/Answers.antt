@@ -1,35 +1,20 @@
--- What the reader's answers stand for, given the list's bytes.
-use Rattle.std.specs.Prelude.{ℕ, suc, zero, ◌+◌, ◌*◌, ◌≤◌, ◌≡◌, Bool, cond, List, [], ◌∷◌, eqb, leb, length, take, drop, get_or}
-use Rattle.std.proofs.Math.Option.{some, none}
+-- Faults, and entries of a call list, given its bytes.
+use Rattle.std.specs.Prelude.{ℕ, suc, zero, ◌+◌, ◌*◌, ◌≤◌, ◌≡◌, cond, List, [], ◌∷◌, eqb, leb, length, take, drop, get_or, None, Some}
 use Rattle.model.specs.declared.storage_memo.Address.{Address}
-use Rattle.model.specs.declared.storage_memo.U256.{U256}
-use Rattle.model.specs.declared.storage_memo.ReadAnchor.{ReadAnchor}
 use Rattle.model.specs.declared.delta_snapshot.Slot.{Slot}
 use Rattle.model.specs.Advance.{Write}
 use Rattle.model.specs.Reads.{Member}
-use Rattle.call_list.specs.CallList.{Parsed, parsed, fault, then, parse_number, parse_member, parse_outcome}
+use Rattle.call_list.specs.CallList.{Parsed, parsed, fault, then, parse_number, parse_member}
 use Rattle.model.specs.Entries.{u256_at, address_of, slot_of}
 use Rattle.reader.specs.declared.Span.{Span}
-use Rattle.reader.specs.declared.Number.{Number}
-use Rattle.reader.specs.declared.Number.TheVariants as number
-use Rattle.reader.specs.declared.Form.{Form}
-use Rattle.reader.specs.declared.Form.TheVariants as form
-use Rattle.reader.specs.declared.Word.{Word}
-use Rattle.reader.specs.declared.Word.TheVariants as word
-use Rattle.reader.specs.declared.SlotRead.{SlotRead}
-use Rattle.reader.specs.declared.SlotRead.TheVariants as slot
-use Rattle.reader.specs.declared.AnchorRead.{AnchorRead}
-use Rattle.reader.specs.declared.AnchorRead.TheVariants as anchor
-use Rattle.reader.specs.declared.SpanRead.{SpanRead}
-use Rattle.reader.specs.declared.SpanRead.TheVariants as span
-use Rattle.reader.specs.declared.Passed.{Passed}
-use Rattle.reader.specs.declared.Passed.TheVariants as passed
+use Rattle.reader.specs.declared.FaultKind.{FaultKind}
+use Rattle.reader.specs.declared.FaultKind.TheVariants.{Unknown, Overlong, Ended}
 
--- What was read is what the definition reads; the next place, or the fault's, is not before the one that was read at, nor past the list's end.
-pub record Reading {A : Type 0} (got want : Parsed A) (at next end : ℕ) : Type 0 where
-  pub means : got ≡ want
-  pub forward : at ≤ next
-  pub within : next ≤ end
+-- The refusal that a fault is.
+abbrev pub fault_number : FaultKind → ℕ
+fault_number Unknown = 3
+fault_number Overlong = 4
+fault_number Ended = 5
 
 -- Entries ---------------------------------------------------------------------------------------------
 
@@ -52,7 +37,7 @@ abbrev pub member_size : List ℕ → ℕ
 member_size l = cond (eqb (get_or l 52 0) 1) 85 53
 
 abbrev pub member_of : List ℕ → Member
-member_of l = record { slot = slot_of (take 52 l); outcome = cond (eqb (get_or l 52 0) 1) (some (u256_at 0 (take 32 (drop 53 l)))) none }
+member_of l = record { slot = slot_of (take 52 l); outcome = cond (eqb (get_or l 52 0) 1) (Some (u256_at 0 (take 32 (drop 53 l)))) None }
 
 -- n members, one after the other.
 unfoldable pub members : ℕ → List ℕ → List Member
@@ -79,10 +64,7 @@ members_at s p = members p.count (drop p.start s)
 abbrev pub fixed_run : ℕ → ℕ → List ℕ → Parsed Run
 fixed_run w n l = cond (leb (n * w) (length l)) (parsed (record { count = n; bytes = l }) (drop (n * w) l)) (fault 5 [])
 
--- Past a member's value, if its form byte says that there is one; past n members. 0 stands for nothing.
-abbrev pub past_value : Bool → List ℕ → Parsed ℕ
-past_value valued l = then (parse_outcome valued l) (λ o r. parsed 0 r)
-
+-- Past n members. 0 stands for nothing.
 unfoldable pub past_members : ℕ → List ℕ → Parsed ℕ
 past_members zero l = parsed 0 l
 past_members (suc n) l = then (parse_member l) (λ m r. past_members n r)
@@ -95,73 +77,9 @@ member_run n l = then (past_members n l) (λ z r. parsed (record { count = n; by
 abbrev pub parse_run : (ℕ → List ℕ → Parsed Run) → List ℕ → Parsed Run
 parse_run f l = then (parse_number l) (λ n r. f n r)
 
--- Answers ---------------------------------------------------------------------------------------------
-
--- Each answer: what was read and the bytes after it, or a fault and the bytes from its place on. Then the place after what was read, or the fault's.
-abbrev pub number_answer : List ℕ → Number → Parsed ℕ
-number_answer s (number.Value x c) = parsed x (drop c.at s)
-number_answer s (number.Fault n c) = fault n (drop c.at s)
-
-abbrev pub number_next : Number → ℕ
-number_next (number.Value x c) = c.at
-number_next (number.Fault n c) = c.at
-
-abbrev pub form_answer : List ℕ → Form → Parsed Bool
-form_answer s (form.Value x c) = parsed x (drop c.at s)
-form_answer s (form.Fault n c) = fault n (drop c.at s)
-
-abbrev pub form_next : Form → ℕ
-form_next (form.Value x c) = c.at
-form_next (form.Fault n c) = c.at
-
-abbrev pub word_answer : List ℕ → Word → Parsed U256
-word_answer s (word.Value x c) = parsed x (drop c.at s)
-word_answer s (word.Fault n c) = fault n (drop c.at s)
-
-abbrev pub word_next : Word → ℕ
-word_next (word.Value x c) = c.at
-word_next (word.Fault n c) = c.at
-
-abbrev pub slot_answer : List ℕ → SlotRead → Parsed Slot
-slot_answer s (slot.Value x c) = parsed x (drop c.at s)
-slot_answer s (slot.Fault n c) = fault n (drop c.at s)
-
-abbrev pub slot_next : SlotRead → ℕ
-slot_next (slot.Value x c) = c.at
-slot_next (slot.Fault n c) = c.at
-
-abbrev pub anchor_answer : List ℕ → AnchorRead → Parsed ReadAnchor
-anchor_answer s (anchor.Value x c) = parsed x (drop c.at s)
-anchor_answer s (anchor.Fault n c) = fault n (drop c.at s)
-
-abbrev pub anchor_next : AnchorRead → ℕ
-anchor_next (anchor.Value x c) = c.at
-anchor_next (anchor.Fault n c) = c.at
-
-abbrev pub span_answer : List ℕ → SpanRead → Parsed Run
-span_answer s (span.Value x c) = parsed (run_at s x) (drop c.at s)
-span_answer s (span.Fault n c) = fault n (drop c.at s)
-
-abbrev pub span_next : SpanRead → ℕ
-span_next (span.Value x c) = c.at
-span_next (span.Fault n c) = c.at
-
-abbrev pub passed_answer : List ℕ → Passed → Parsed ℕ
-passed_answer s (passed.Value c) = parsed 0 (drop c.at s)
-passed_answer s (passed.Fault n c) = fault n (drop c.at s)
-
-abbrev pub passed_next : Passed → ℕ
-passed_next (passed.Value c) = c.at
-passed_next (passed.Fault n c) = c.at
-
--- Where the entries of a span stand: within the list, with the places past members leading to the next place.
-abbrev pub EntriesWithin : ℕ → ℕ → SpanRead → Type 0
-EntriesWithin w end (span.Value p c) = p.start + p.count * w ≤ end
-EntriesWithin w end (span.Fault n c) = Unit {0}
+-- Where the entries of a span stand: within the list, or, for members, with the places past them leading to the next place.
+abbrev pub SpanWithin : ℕ → ℕ → Span → Type 0
+SpanWithin w end p = p.start + p.count * w ≤ end
 
 abbrev pub MembersWithin : List ℕ → Span → ℕ → Type 0
 MembersWithin s p next = (p.start ≤ length s) × (past_members p.count (drop p.start s) ≡ parsed 0 (drop next s))
-
-abbrev pub SpansMembers : List ℕ → SpanRead → Type 0
-SpansMembers s (span.Value p c) = MembersWithin s p c.at
-SpansMembers s (span.Fault n c) = Unit {0}

@@ -1,13 +1,10 @@
-// The reader of the parts of a call list: a cursor by value, and an answer for each kind of part.
+// The reader of the parts of a call list: a place in the list, which goes forward past each part that is read.
 #![tactic(auto)]
 
-ghost use Rattle.std.specs.Prelude.{◌≡◌, ◌&&◌, ◌+◌, ◌≤◌, ◌<◌, eqb, ltb, length, drop};
+ghost use Rattle.std.specs.Prelude.{◌≡◌, ◌+◌, ◌≤◌, length};
 ghost use Rattle.words.specs.Parts.{part};
-ghost use Rattle.call_list.specs.CallList.{number_from, parse_number, parse_form, parse_u256, parse_slot, parse_hash, parse_anchor};
 ghost use Rattle.model.specs.Entries.{slot_of};
-ghost use Rattle.reader.specs.Answers.{Reading, EntriesWithin, SpansMembers, fixed_run, past_value, past_members, member_run, parse_run};
-ghost use Rattle.reader.specs.Answers.{number_answer, number_next, form_answer, form_next, word_answer, word_next, slot_answer, slot_next};
-ghost use Rattle.reader.specs.Answers.{anchor_answer, anchor_next, span_answer, span_next, passed_answer, passed_next};
+ghost use Rattle.reader.specs.Answers.{fault_number};
 
 use model::delta_snapshot::Slot;
 use model::storage_memo::{ReadAnchor, U256};
@@ -18,39 +15,34 @@ pub struct Cursor {
     pub at: usize,
 }
 
-// A number that was read, and the place after it; or a fault and its place.
-#[derive(Clone, Copy)]
-pub enum Number {
-    Value(u64, Cursor),
-    Fault(u64, Cursor),
+// What is wrong at a place of a call list.
+#[derive(Clone, Copy, Debug, PartialEq, Eq)]
+pub enum FaultKind {
+    // A form byte or a code that is none.
+    Unknown,
+    // A number that is not in its shortest form, or too large.
+    Overlong,
+    // The list breaks off.
+    Ended,
 }
 
-// A form byte that was read: whether it is 1.
-#[derive(Clone, Copy)]
-pub enum Form {
-    Value(bool, Cursor),
-    Fault(u64, Cursor),
+impl From<FaultKind> for u64 {
+    ghost from_gives = { λ kind n. n ≡ fault_number kind };
+
+    fn from(kind: FaultKind) -> u64 {
+        match kind {
+            FaultKind::Unknown => 3,
+            FaultKind::Overlong => 4,
+            FaultKind::Ended => 5,
+        }
+    }
 }
 
-// A 32-byte number that was read.
+// A fault, and the place of its byte: the list's end, where it breaks off.
 #[derive(Clone, Copy)]
-pub enum Word {
-    Value(U256, Cursor),
-    Fault(u64, Cursor),
-}
-
-// A slot that was read.
-#[derive(Clone, Copy)]
-pub enum SlotRead {
-    Value(Slot, Cursor),
-    Fault(u64, Cursor),
-}
-
-// An anchor that was read.
-#[derive(Clone, Copy)]
-pub enum AnchorRead {
-    Value(ReadAnchor, Cursor),
-    Fault(u64, Cursor),
+pub struct Fault {
+    pub kind: FaultKind,
+    pub place: Cursor,
 }
 
 // Entries that stand one after the other: the place of the first, and how many.
@@ -60,91 +52,12 @@ pub struct Span {
     pub count: usize,
 }
 
-// Entries that were passed.
-#[derive(Clone, Copy)]
-pub enum SpanRead {
-    Value(Span, Cursor),
-    Fault(u64, Cursor),
-}
-
-// The place past members of an answer.
-#[derive(Clone, Copy)]
-pub enum Passed {
-    Value(Cursor),
-    Fault(u64, Cursor),
-}
-
-fn wide(x: u8) -> u64
-    ensures { result ≡ x }
-{
-    x as u64
-}
-
-// Whether a last group makes a number longer than it need be: a group of 0 after others.
-fn overlong(b: u64, worth: u64) -> bool
-    ensures { result ≡ (eqb b 0 && ltb 1 worth) }
-{
-    if b == 0 { 1 < worth } else { false }
-}
-
-// The tenth byte of a number, which is 1 or a fault.
-fn read_tenth(s: &[u8], at: usize, worth: u64, sum: u64) -> Number
-    requires { (at ≤ length s.now) × (worth ≡ 9223372036854775808) × (sum < worth) }
-    ensures { Reading (number_answer s.now result) (number_from 0 worth sum (drop at s.now)) at (number_next result) (length s.now) }
-{
-    if at == s.len() {
-        return Number::Fault(5, Cursor { at: s.len() });
-    }
-    if s[at] == 1 {
-        Number::Value(sum + worth, Cursor { at: at + 1 })
-    } else {
-        Number::Fault(4, Cursor { at })
-    }
-}
-
-// A number, in groups of seven bits, lowest first; the byte plus 128 where another follows.
-pub fn read_number(s: &[u8], c: Cursor) -> Number
-    requires { c.at ≤ length s.now }
-    ensures { Reading (number_answer s.now result) (parse_number (drop c.at s.now)) c.at (number_next result) (length s.now) }
-{
-    let mut at = c.at;
-    // How many groups may come before the tenth.
-    let mut groups_left: u8 = 9;
-    let mut worth: u64 = 1;
-    let mut sum: u64 = 0;
-    while 0 < groups_left {
-        if s.len() <= at {
-            return Number::Fault(5, Cursor { at: s.len() });
-        }
-        let b = wide(s[at]);
-        if b < 128 {
-            if overlong(b, worth) {
-                return Number::Fault(4, Cursor { at });
-            }
-            return Number::Value(sum + worth * b, Cursor { at: at + 1 });
-        }
-        sum += worth * (b - 128);
-        worth *= 128;
-        groups_left -= 1;
-        at += 1;
-    }
-    read_tenth(s, at, worth, sum)
-}
-
-// A form byte: 0 or 1, else fault 3.
-pub fn read_form(s: &[u8], c: Cursor) -> Form
-    requires { c.at ≤ length s.now }
-    ensures { Reading (form_answer s.now result) (parse_form (drop c.at s.now)) c.at (form_next result) (length s.now) }
-{
-    let at = c.at;
-    if s.len() <= at {
-        return Form::Fault(5, Cursor { at: s.len() });
-    }
-    let b = s[at];
-    if 1 < b {
-        return Form::Fault(3, Cursor { at });
-    }
-    Form::Value(b == 1, Cursor { at: at + 1 })
+// A list, and the place in it that is read next. At a fault it is the place of the fault's byte.
+#[derive(Drop)]
+pub struct Reader<'a> {
+    pub list: &'a [u8],
+    pub at: usize,
+    ghost within: { at ≤ length list.now },
 }
 
 // The slot at a place.
@@ -155,158 +68,167 @@ pub fn slot_at(s: &[u8], at: usize) -> Slot
     entries::read_slot(s, at)
 }
 
-// A 32-byte number.
-pub fn read_u256(s: &[u8], c: Cursor) -> Word
-    requires { c.at ≤ length s.now }
-    ensures { Reading (word_answer s.now result) (parse_u256 (drop c.at s.now)) c.at (word_next result) (length s.now) }
-{
-    let at = c.at;
-    if s.len() - at < 32 {
-        return Word::Fault(5, Cursor { at: s.len() });
-    }
-    Word::Value(entries::read_u256(s, at), Cursor { at: at + 32 })
-}
+impl<'a> Reader<'a> {
+    ghost use Rattle.std.specs.Prelude.{◌<◌, IfOk};
+    ghost use Rattle.call_list.specs.CallList.{number_from, parse_number, parse_bytes, parse_form, parse_u256, parse_slot, parse_anchor};
+    ghost use Rattle.reader.specs.Reading.{Reads, Stands, as_is, passed};
+    ghost use Rattle.reader.specs.Answers.{run_at, SpanWithin, MembersWithin, fixed_run, past_members, member_run, parse_run};
 
-// A slot.
-pub fn read_slot(s: &[u8], c: Cursor) -> SlotRead
-    requires { c.at ≤ length s.now }
-    ensures { Reading (slot_answer s.now result) (parse_slot (drop c.at s.now)) c.at (slot_next result) (length s.now) }
-{
-    let at = c.at;
-    if s.len() - at < 52 {
-        return SlotRead::Fault(5, Cursor { at: s.len() });
-    }
-    SlotRead::Value(slot_at(s, at), Cursor { at: at + 52 })
-}
-
-// The rest of an anchor of a number, by its form byte.
-fn read_hash(s: &[u8], number: u64, known: bool, c: Cursor) -> AnchorRead
-    requires { c.at ≤ length s.now }
-    ensures { Reading (anchor_answer s.now result) (parse_hash number known (drop c.at s.now)) c.at (anchor_next result) (length s.now) }
-{
-    if known {
-        match read_u256(s, c) {
-            Word::Value(hash, next) => AnchorRead::Value(
-                ReadAnchor::identified(number, hash),
-                next,
-            ),
-            Word::Fault(n, place) => AnchorRead::Fault(n, place),
+    // The byte that is read next, if there is one.
+    #[tactic(auto, using(crate::proofs::Groups::byte_there))]
+    pub fn peek(&self) -> Result<u8, FaultKind>
+        ensures { Stands result self.now }
+    {
+        if self.at == self.list.len() {
+            return Err(FaultKind::Ended);
         }
-    } else {
-        AnchorRead::Value(ReadAnchor::at(number), c)
+        Ok(self.list[self.at])
     }
-}
 
-// An anchor: number, byte 0, or 1 and hash.
-pub fn read_anchor(s: &[u8], c: Cursor) -> AnchorRead
-    requires { c.at ≤ length s.now }
-    ensures { Reading (anchor_answer s.now result) (parse_anchor (drop c.at s.now)) c.at (anchor_next result) (length s.now) }
-{
-    match read_number(s, c) {
-        Number::Value(number, form) => match read_form(s, form) {
-            Form::Value(known, next) => read_hash(s, number, known, next),
-            Form::Fault(n, place) => AnchorRead::Fault(n, place),
-        },
-        Number::Fault(n, place) => AnchorRead::Fault(n, place),
-    }
-}
-
-// Past `count` entries of `width` bytes each.
-fn pass_entries(s: &[u8], width: usize, count: u64, c: Cursor) -> SpanRead
-    requires { (c.at ≤ length s.now) × (0 < width) }
-    ensures reading { Reading (span_answer s.now result) (fixed_run width count (drop c.at s.now)) c.at (span_next result) (length s.now) }
-    ensures spans { EntriesWithin width (length s.now) result }
-{
-    let start = c.at;
-    let count = count as usize;
-    if (s.len() - start) / width < count {
-        return SpanRead::Fault(5, Cursor { at: s.len() });
-    }
-    SpanRead::Value(
-        Span { start, count },
-        Cursor {
-            at: start + count * width,
-        },
-    )
-}
-
-// A count and as many entries of `width` bytes each.
-pub fn read_entries(s: &[u8], width: usize, c: Cursor) -> SpanRead
-    requires { (c.at ≤ length s.now) × (0 < width) }
-    ensures reading { Reading (span_answer s.now result) (parse_run (fixed_run width) (drop c.at s.now)) c.at (span_next result) (length s.now) }
-    ensures spans { EntriesWithin width (length s.now) result }
-{
-    match read_number(s, c) {
-        Number::Value(count, next) => pass_entries(s, width, count, next),
-        Number::Fault(n, place) => SpanRead::Fault(n, place),
-    }
-}
-
-// Past a member's value, if its form byte says that there is one.
-fn pass_value(s: &[u8], valued: bool, c: Cursor) -> Passed
-    requires { c.at ≤ length s.now }
-    ensures { Reading (passed_answer s.now result) (past_value valued (drop c.at s.now)) c.at (passed_next result) (length s.now) }
-{
-    if valued {
-        match read_u256(s, c) {
-            Word::Value(_, next) => Passed::Value(next),
-            Word::Fault(n, place) => Passed::Fault(n, place),
+    // The next n bytes.
+    fn read_bytes(&mut self, n: usize) -> Result<&'a [u8], FaultKind>
+        ensures reading { Reads (λ b. b.now) result (parse_bytes n) self.old self.new }
+        ensures long { IfOk result (λ b. length b.now ≡ n) }
+    {
+        let list = self.list;
+        let at = self.at;
+        if list.len() - at < n {
+            self.at = list.len();
+            return Err(FaultKind::Ended);
         }
-    } else {
-        Passed::Value(c)
+        self.at = at + n;
+        Ok(&list[at..at + n])
     }
-}
 
-// Past one member of an answer: a slot, then 1 and its value, or 0.
-pub fn pass_member(s: &[u8], c: Cursor) -> Passed
-    requires { c.at ≤ length s.now }
-    ensures { Reading (passed_answer s.now result) (past_members 1 (drop c.at s.now)) c.at (passed_next result) (length s.now) }
-{
-    match read_slot(s, c) {
-        SlotRead::Value(_, form) => match read_form(s, form) {
-            Form::Value(valued, value) => pass_value(s, valued, value),
-            Form::Fault(n, place) => Passed::Fault(n, place),
-        },
-        SlotRead::Fault(n, place) => Passed::Fault(n, place),
+    // The tenth byte of a number, which is 1 or a fault.
+    #[tactic(auto, unfolding(call_list::specs::CallList::number_from))]
+    fn read_tenth(&mut self, worth: u64, sum: u64) -> Result<u64, FaultKind>
+        requires { (worth ≡ 9223372036854775808) × (sum < worth) }
+        ensures { Reads as_is result (number_from 0 worth sum) self.old self.new }
+    {
+        let last = self.peek()?;
+        if last != 1 {
+            return Err(FaultKind::Overlong);
+        }
+        self.at += 1;
+        Ok(sum + worth)
     }
-}
 
-// Past `count` members.
-fn pass_members(s: &[u8], count: u64, c: Cursor) -> Passed
-    requires { c.at ≤ length s.now }
-    ensures { Reading (passed_answer s.now result) (past_members count (drop c.at s.now)) c.at (passed_next result) (length s.now) }
-{
-    let mut at = c.at;
-    let mut left = count;
-    while 0 < left {
-        match pass_member(s, Cursor { at }) {
-            Passed::Value(next) => {
-                at = next.at;
-                left -= 1;
+    // A number, in groups of seven bits, lowest first; the byte plus 128 where another follows.
+    #[tactic(auto, unfolding(call_list::specs::CallList::number_from))]
+    pub fn read_number(&mut self) -> Result<u64, FaultKind>
+        ensures { Reads as_is result parse_number self.old self.new }
+    {
+        // How many groups may come before the tenth. The definition counts them down too, so that a `for` would be no plainer.
+        let mut groups_left: u8 = 9;
+        let mut worth: u64 = 1;
+        let mut sum: u64 = 0;
+        while 0 < groups_left {
+            let b = u64::from(self.peek()?);
+            if b < 128 {
+                // A last group of 0 after others.
+                if b == 0 && 1 < worth {
+                    return Err(FaultKind::Overlong);
+                }
+                self.at += 1;
+                return Ok(sum + worth * b);
             }
-            Passed::Fault(n, place) => return Passed::Fault(n, place),
+            sum += worth * (b - 128);
+            worth *= 128;
+            groups_left -= 1;
+            self.at += 1;
         }
+        self.read_tenth(worth, sum)
     }
-    Passed::Value(Cursor { at })
-}
 
-// A count and as many members.
-pub fn read_members(s: &[u8], c: Cursor) -> SpanRead
-    requires { c.at ≤ length s.now }
-    ensures reading { Reading (span_answer s.now result) (parse_run member_run (drop c.at s.now)) c.at (span_next result) (length s.now) }
-    ensures spans { SpansMembers s.now result }
-{
-    match read_number(s, c) {
-        Number::Value(count, first) => match pass_members(s, count, first) {
-            Passed::Value(next) => SpanRead::Value(
-                Span {
-                    start: first.at,
-                    count: count as usize,
-                },
-                next,
-            ),
-            Passed::Fault(n, place) => SpanRead::Fault(n, place),
-        },
-        Number::Fault(n, place) => SpanRead::Fault(n, place),
+    // A form byte: 0 or 1, else a fault.
+    #[tactic(auto, unfolding(call_list::specs::CallList::parse_form))]
+    pub fn read_form(&mut self) -> Result<bool, FaultKind>
+        ensures { Reads as_is result parse_form self.old self.new }
+    {
+        let b = self.peek()?;
+        if 1 < b {
+            return Err(FaultKind::Unknown);
+        }
+        self.at += 1;
+        Ok(b == 1)
+    }
+
+    // A 32-byte number.
+    pub fn read_u256(&mut self) -> Result<U256, FaultKind>
+        ensures { Reads as_is result parse_u256 self.old self.new }
+    {
+        Ok(entries::read_u256(self.read_bytes(32)?, 0))
+    }
+
+    // A slot.
+    pub fn read_slot(&mut self) -> Result<Slot, FaultKind>
+        ensures { Reads as_is result parse_slot self.old self.new }
+    {
+        Ok(entries::read_slot(self.read_bytes(52)?, 0))
+    }
+
+    // An anchor: number, byte 0, or 1 and hash.
+    pub fn read_anchor(&mut self) -> Result<ReadAnchor, FaultKind>
+        ensures { Reads as_is result parse_anchor self.old self.new }
+    {
+        let number = self.read_number()?;
+        if !self.read_form()? {
+            return Ok(ReadAnchor::at(number));
+        }
+        let hash = self.read_u256()?;
+        Ok(ReadAnchor::identified(number, hash))
+    }
+
+    // A count and as many entries of `width` bytes each.
+    pub fn read_entries(&mut self, width: usize) -> Result<Span, FaultKind>
+        requires { 0 < width }
+        ensures reading { Reads (run_at self.old.list.now) result (parse_run (fixed_run width)) self.old self.new }
+        ensures spans { IfOk result (SpanWithin width (length self.old.list.now)) }
+    {
+        let count = self.read_number()? as usize;
+        let start = self.at;
+        if (self.list.len() - start) / width < count {
+            self.at = self.list.len();
+            return Err(FaultKind::Ended);
+        }
+        self.at = start + count * width;
+        Ok(Span { start, count })
+    }
+
+    // Past one member of an answer: a slot, then 1 and its value, or 0.
+    #[tactic(auto, unfolding(crate::specs::Answers::past_members))]
+    pub fn pass_member(&mut self) -> Result<(), FaultKind>
+        ensures { Reads passed result (past_members 1) self.old self.new }
+    {
+        self.read_slot()?;
+        if self.read_form()? {
+            self.read_u256()?;
+        }
+        Ok(())
+    }
+
+    // Past `count` members.
+    fn pass_members(&mut self, count: u64) -> Result<(), FaultKind>
+        ensures { Reads passed result (past_members count) self.old self.new }
+    {
+        for _ in 0..count {
+            self.pass_member()?;
+        }
+        Ok(())
+    }
+
+    // A count and as many members.
+    pub fn read_members(&mut self) -> Result<Span, FaultKind>
+        ensures reading { Reads (run_at self.old.list.now) result (parse_run member_run) self.old self.new }
+        ensures spans { IfOk result (λ p. MembersWithin self.old.list.now p self.new.at) }
+    {
+        let count = self.read_number()?;
+        let start = self.at;
+        self.pass_members(count)?;
+        Ok(Span {
+            start,
+            count: count as usize,
+        })
     }
 }

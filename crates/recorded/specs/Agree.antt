@@ -1,6 +1,5 @@
 -- The definitions' run of each recorded list is the oracle's listing; with details it is the oracle's detailed listing.
-use Rattle.std.specs.Prelude.{ℕ, zero, suc, ◌-◌, ◌≡◌, List, [], ◌∷◌, ◌++◌, map, length}
-use Rattle.std.proofs.Math.Option.{Option, some, none}
+use Rattle.std.specs.Prelude.{ℕ, zero, suc, ◌-◌, ◌≡◌, List, [], ◌∷◌, ◌++◌, map, length, None, Option, Some}
 use Rattle.model.specs.declared.read_hub.ReadTotals.{ReadTotals}
 use Rattle.model.specs.Entries.{chunks}
 use Rattle.model.specs.Store.{Generation, Memory, Report, opened, anchor_same, anchor_fresh, advanced, value, no_value, stored, waiting, listed, answered}
@@ -41,8 +40,8 @@ applied_lines (answered m e w) out = []
 
 -- The totals of the installed generation: those that the Rust counts, and those that its read futures show.
 abbrev pub totals_lines : Option Generation → List ℕ
-totals_lines none = []
-totals_lines (some g) =
+totals_lines None = []
+totals_lines (Some g) =
     let t : ReadTotals = g.totals in
     line (ascii "stats") (decimals (t.coalesced ∷ t.rounds ∷ t.members ∷ t.errors ∷ []))
     ++ line (ascii "reads") (decimals (t.accepted ∷ t.served ∷ t.waiting ∷ t.valued ∷ t.refused ∷ []))
@@ -60,25 +59,25 @@ detailed m (c ∷ cs) = let o : StepResult = step m c in answer_lines o.answer +
 -- The bytes from the fault's byte on that ends a list, or none where the list is whole. k bytes have at most k calls.
 abbrev pub fault_or : Parsed ListedCall → (List ℕ → Option (List ℕ)) → Option (List ℕ)
 fault_or (parsed c l) f = f l
-fault_or (fault n r) f = some r
+fault_or (fault n r) f = Some r
 
 abbrev pub fault_after : List ℕ → (List ℕ → Option (List ℕ)) → Option (List ℕ)
-fault_after [] f = none
+fault_after [] f = None
 fault_after (b ∷ l) f = fault_or (parse_call (b ∷ l)) f
 
 unfoldable pub fault_from : ℕ → List ℕ → Option (List ℕ)
-fault_from zero l = none
+fault_from zero l = None
 fault_from (suc k) l = fault_after l (λ r. fault_from k r)
 
 -- The place of that byte in a list of n bytes.
 abbrev pub place_line : ℕ → Option (List ℕ) → List ℕ
-place_line n none = []
-place_line n (some r) = line (ascii "at") (decimals ((n - length r) ∷ []))
+place_line n None = []
+place_line n (Some r) = line (ascii "at") (decimals ((n - length r) ∷ []))
 
 unfoldable pub detailed_output : List ℕ → List ℕ
 detailed_output input =
     let l : CallList = call_list input in
-    detailed none (lent_calls default_limits l.calls) ++ (end_line l.ends_with ++ place_line (length input) (fault_from (length input) input))
+    detailed None (lent_calls default_limits l.calls) ++ (end_line l.ends_with ++ place_line (length input) (fault_from (length input) input))
 
 pub record RecordedAgree : Type 0 where
   pub listings : map (λ r. calls_output r.bytes) recorded_lists ≡ map (λ r. ascii r.text) recorded_lists

@@ -1,6 +1,5 @@
 -- The definitions at their limits and one past them, where a call list reaches no such state or is too long for computation.
-use Rattle.std.specs.Prelude.{ℕ, zero, suc, ◌-◌, ◌≤◌, ◌≡◌, false, List, [], ◌∷◌, ◌++◌, map, length, replicate}
-use Rattle.std.proofs.Math.Option.{some, none}
+use Rattle.std.specs.Prelude.{ℕ, zero, suc, ◌-◌, ◌≤◌, ◌≡◌, false, List, [], ◌∷◌, ◌++◌, map, length, replicate, None, Some}
 use Rattle.model.specs.declared.storage_memo.U256.{U256}
 use Rattle.model.specs.declared.delta_snapshot.Slot.{Slot}
 use Rattle.model.specs.declared.delta_snapshot.Retention.TheVariants.{Unbounded}
@@ -28,11 +27,11 @@ queue (suc n) = record { slot = numbered n; waiters = 1; taken = false } ∷ que
 -- A store of 4 records at block 5 with n queued slots, whose generation has had so many accepted reads.
 abbrev pub reading : ℕ → ℕ → Memory
 reading n accepted =
-    some
+    Some
     (record {
       config = record { capacity = 4; max_depth = 1; retention = Unbounded };
       installed =
-          some
+          Some
           (record {
             anchor = at 5;
             base = void_base;
@@ -55,17 +54,17 @@ lent work entries = record { store_bytes = 0; work_bytes = work; output_entries 
 
 -- 25, 27 and an advance's 9 at their limits and one past them; document 01's order of the refusals, and 25 before 24 where both hold.
 pub record RefusedAtLimits : Type 0 where
-  pub last_read : refusal (reading 0 4294967294) (lent 0 0) (here (on_slot (read (numbered 0)))) ≡ none
-  pub read_past_it : refusal (reading 0 4294967295) (lent 0 0) (here (on_slot (read (numbered 0)))) ≡ some 25
-  pub queue_fits : refusal (reading 3 3) (lent 0 3) (here take) ≡ none
-  pub queue_past_it : refusal (reading 3 3) (lent 0 2) (here take) ≡ some 27
-  pub areas_fit : refusal (reading 0 0) (lent (work_size 4) 1) advance_6 ≡ none
-  pub work_short : refusal (reading 0 0) (lent (work_size 4 - 1) 1) advance_6 ≡ some 9
-  pub output_short : refusal (reading 0 0) (lent (work_size 4) 0) advance_6 ≡ some 9
+  pub last_read : refusal (reading 0 4294967294) (lent 0 0) (here (on_slot (read (numbered 0)))) ≡ None
+  pub read_past_it : refusal (reading 0 4294967295) (lent 0 0) (here (on_slot (read (numbered 0)))) ≡ Some 25
+  pub queue_fits : refusal (reading 3 3) (lent 0 3) (here take) ≡ None
+  pub queue_past_it : refusal (reading 3 3) (lent 0 2) (here take) ≡ Some 27
+  pub areas_fit : refusal (reading 0 0) (lent (work_size 4) 1) advance_6 ≡ None
+  pub work_short : refusal (reading 0 0) (lent (work_size 4 - 1) 1) advance_6 ≡ Some 9
+  pub output_short : refusal (reading 0 0) (lent (work_size 4) 0) advance_6 ≡ Some 9
   pub order : (m : Memory) (l : Lent) (c : Call) →
       map (λ k. k.number) (conditions m l c) ≡ 20 ∷ 1 ∷ 2 ∷ 6 ∷ 7 ∷ 8 ∷ 9 ∷ 21 ∷ 22 ∷ 26 ∷ 25 ∷ 24 ∷ 23 ∷ 27 ∷ []
-  pub only_24 : refusal (reading 64 64) (lent 0 0) (here (on_slot (read (numbered 64)))) ≡ some 24
-  pub both_25 : refusal (reading 64 4294967295) (lent 0 0) (here (on_slot (read (numbered 64)))) ≡ some 25
+  pub only_24 : refusal (reading 64 64) (lent 0 0) (here (on_slot (read (numbered 64)))) ≡ Some 24
+  pub both_25 : refusal (reading 64 4294967295) (lent 0 0) (here (on_slot (read (numbered 64)))) ≡ Some 25
 
 -- A take puts its slots to the output's beginning; a refused call keeps every byte.
 pub record OutputAfter : Type 0 where
@@ -74,7 +73,7 @@ pub record OutputAfter : Type 0 where
 
 -- `calls` takes lists of up to 65,536 bytes whole and nothing past them. It lends a work area of 33,472 bytes and an output of 1,024 entries.
 pub record CallsTakes : Type 0 where
-  pub whole_list : (input : List ℕ) → length input ≤ 65536 → calls_output input ≡ listing default_limits none (call_list input)
+  pub whole_list : (input : List ℕ) → length input ≤ 65536 → calls_output input ≡ listing default_limits None (call_list input)
   pub rest_ignored : (input rest : List ℕ) → 65536 ≤ length input → calls_output (input ++ rest) ≡ calls_output input
   pub work_lent : program_lent.work_bytes ≡ 36032
   pub entries_lent : program_lent.output_entries ≡ 1024

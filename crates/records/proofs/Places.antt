@@ -1,9 +1,9 @@
 -- The place of a slot among records: what the search shows, and what a caller learns of it.
+use Rattle.std.specs.Prelude.{None, Some, Err, Ok}
 use Prim.Native.Nat.{ℕ, zero, suc, ◌+◌, ◌-◌, ◌≤◌, ◌<◌}
 use mathlib.Core.Path.{◌≡◌, refl, sym, ap, subst, ◌∙◌}
 use mathlib.Core.Bool.{Bool, true, false}
 use mathlib.Core.List.{[], ◌∷◌, ◌++◌}
-use mathlib.Core.Option.{some, none}
 use native.Mathlib.Numerals.{add-one}
 use native.Mathlib.Omega.{arith}
 use lib.ListN.{length, take, drop}
@@ -13,16 +13,15 @@ use Rattle.model.specs.declared.delta_snapshot.Content.{Content}
 use Rattle.model.specs.Layers.{Record, Layer, find, insert}
 use Rattle.model.proofs.SlotLaws.{split, not_both, and_left, and_right, slot_eqb_true, slot_eqb_sym, slot_ltb_irrefl, slot_ltb_total, slot_ltb_trans, slot_ltb_eqb}
 use Rattle.image.specs.WellFormed.{rising_from, rising}
-use Rattle.records.specs.declared.Order.{Order}
-use Rattle.records.specs.declared.Order.TheVariants.{Less, Equal, Greater}
-use Rattle.records.specs.declared.Found.{Found}
-use Rattle.records.specs.declared.Found.TheVariants.{At, Absent}
+use Rattle.std.specs.declared.cmp.Ordering.{Ordering}
+use Rattle.std.specs.declared.cmp.Ordering.TheVariants.{Less, Equal, Greater}
+use Rattle.records.specs.Records.{Found}
 use Rattle.records.specs.Records.{slot_order, place_from, place_in, record_at, count_after}
 
 -- The order of two slots ------------------------------------------------------------------------------
 
 -- What an answer says of the two tests.
-order_says : {P : Type 0} (a b : Slot) (o : Order) → slot_order a b ≡ o
+order_says : {P : Type 0} (a b : Slot) (o : Ordering) → slot_order a b ≡ o
     → (slot_eqb a b ≡ true → o ≡ Equal → P) → (slot_ltb a b ≡ true → o ≡ Less → P) → (slot_ltb b a ≡ true → o ≡ Greater → P) → P
 unfolding slot_order
 order_says a b o e equal less greater =
@@ -49,33 +48,33 @@ slot_ltb_asym a b p = split (slot_ltb b a) (λ q. not_both (slot_ltb_trans a b a
 abbrev pub Below : Layer → Slot → ℕ → Type 0
 Below l t i = (j : ℕ) → j < i → slot_ltb (record_at j l).slot t ≡ true
 
-place_at_from : (l : Layer) (b : ℕ) (t : Slot) (i : ℕ) → i < length l → Below l t i → slot_eqb (record_at i l).slot t ≡ true → At (b + i) ≡ place_from b t l
+place_at_from : (l : Layer) (b : ℕ) (t : Slot) (i : ℕ) → i < length l → Below l t i → slot_eqb (record_at i l).slot t ≡ true → Ok (b + i) ≡ place_from b t l
 unfolding place_from
 place_at_from [] b t i h p e = absurd (omega arith)
-place_at_from (r ∷ l) b t zero h p e = rw e (ap At (omega arith))
+place_at_from (r ∷ l) b t zero h p e = rw e (ap Ok (omega arith))
 place_at_from (r ∷ l) b t (suc i) h p e =
     let q : suc b + i ≡ b + suc i = omega arith in
     let k : slot_ltb r.slot t ≡ true = p 0 (omega arith) in
     rw (slot_ltb_eqb r.slot t k, slot_ltb_asym r.slot t k, ← q) (place_at_from l (suc b) t i (omega arith) (λ j m. p (suc j) (omega arith)) e)
 
-place_absent_from : (l : Layer) (b : ℕ) (t : Slot) (i : ℕ) → i ≤ length l → Below l t i → (i < length l → slot_ltb t (record_at i l).slot ≡ true) → Absent (b + i) ≡ place_from b t l
+place_absent_from : (l : Layer) (b : ℕ) (t : Slot) (i : ℕ) → i ≤ length l → Below l t i → (i < length l → slot_ltb t (record_at i l).slot ≡ true) → Err (b + i) ≡ place_from b t l
 unfolding place_from
-place_absent_from [] b t i h p e = ap Absent (omega arith)
+place_absent_from [] b t i h p e = ap Err (omega arith)
 place_absent_from (r ∷ l) b t zero h p e =
     let k : slot_ltb t r.slot ≡ true = e (omega arith) in
-    rw (slot_eqb_sym r.slot t ∙ slot_ltb_eqb t r.slot k, k) (ap Absent (omega arith))
+    rw (slot_eqb_sym r.slot t ∙ slot_ltb_eqb t r.slot k, k) (ap Err (omega arith))
 place_absent_from (r ∷ l) b t (suc i) h p e =
     let q : suc b + i ≡ b + suc i = omega arith in
     let k : slot_ltb r.slot t ≡ true = p 0 (omega arith) in
     rw (slot_ltb_eqb r.slot t k, slot_ltb_asym r.slot t k, ← q) (place_absent_from l (suc b) t i (omega arith) (λ j m. p (suc j) (omega arith)) (λ m. e (omega arith)))
 
 -- The slot's record is at place i, and the slots before it come before it.
-pub place_at : (l : Layer) (t : Slot) (i : ℕ) → i < length l → Below l t i → slot_eqb (record_at i l).slot t ≡ true → At i ≡ place_in t l
-place_at l t i h p e = ap At (omega arith) ∙ place_at_from l 0 t i h p e
+pub place_at : (l : Layer) (t : Slot) (i : ℕ) → i < length l → Below l t i → slot_eqb (record_at i l).slot t ≡ true → Ok i ≡ place_in t l
+place_at l t i h p e = ap Ok (omega arith) ∙ place_at_from l 0 t i h p e
 
 -- The slots before place i come before the slot, and that at place i, if there is one, after it.
-pub place_absent : (l : Layer) (t : Slot) (i : ℕ) → i ≤ length l → Below l t i → (i < length l → slot_ltb t (record_at i l).slot ≡ true) → Absent i ≡ place_in t l
-place_absent l t i h p e = ap Absent (omega arith) ∙ place_absent_from l 0 t i h p e
+pub place_absent : (l : Layer) (t : Slot) (i : ℕ) → i ≤ length l → Below l t i → (i < length l → slot_ltb t (record_at i l).slot ≡ true) → Err i ≡ place_in t l
+place_absent l t i h p e = ap Err (omega arith) ∙ place_absent_from l 0 t i h p e
 
 -- Records that rise -----------------------------------------------------------------------------------
 
@@ -121,81 +120,81 @@ below_at l t m e h p j k = subst (λ (x : Slot). slot_ltb (record_at j l).slot x
 -- What a caller learns of a place ---------------------------------------------------------------------
 
 -- Where a slot is found among a record and others, or absent: at the first, or among the others.
-found_cases : {P : Type 0} (r : Record) (l : Layer) (b : ℕ) (t : Slot) (i : ℕ) → place_from b t (r ∷ l) ≡ At i
-    → (slot_eqb r.slot t ≡ true → b ≡ i → P) → (slot_eqb r.slot t ≡ false → slot_ltb t r.slot ≡ false → place_from (suc b) t l ≡ At i → P) → P
+found_cases : {P : Type 0} (r : Record) (l : Layer) (b : ℕ) (t : Slot) (i : ℕ) → place_from b t (r ∷ l) ≡ Ok i
+    → (slot_eqb r.slot t ≡ true → b ≡ i → P) → (slot_eqb r.slot t ≡ false → slot_ltb t r.slot ≡ false → place_from (suc b) t l ≡ Ok i → P) → P
 unfolding place_from
 found_cases r l b t i e first later =
     split (slot_eqb r.slot t)
-    (λ p. let f : At b ≡ At i = rw p at e in first p (cc))
+    (λ p. let f : Ok b ≡ Ok i = rw p at e in first p (cc))
     (λ p. split (slot_ltb t r.slot)
-    (λ q. let f : Absent b ≡ At i = rw (p, q) at e in let z : ◌≡◌ {A = ℕ} 0 1 = cc in absurd (omega arith))
+    (λ q. let f : Err b ≡ Ok i = rw (p, q) at e in let z : ◌≡◌ {A = ℕ} 0 1 = cc in absurd (omega arith))
     (λ q. later p q (rw (p, q) at e)))
 
-absent_cases : {P : Type 0} (r : Record) (l : Layer) (b : ℕ) (t : Slot) (i : ℕ) → place_from b t (r ∷ l) ≡ Absent i
-    → (slot_eqb r.slot t ≡ false → slot_ltb t r.slot ≡ true → b ≡ i → P) → (slot_eqb r.slot t ≡ false → slot_ltb t r.slot ≡ false → place_from (suc b) t l ≡ Absent i → P) → P
+absent_cases : {P : Type 0} (r : Record) (l : Layer) (b : ℕ) (t : Slot) (i : ℕ) → place_from b t (r ∷ l) ≡ Err i
+    → (slot_eqb r.slot t ≡ false → slot_ltb t r.slot ≡ true → b ≡ i → P) → (slot_eqb r.slot t ≡ false → slot_ltb t r.slot ≡ false → place_from (suc b) t l ≡ Err i → P) → P
 unfolding place_from
 absent_cases r l b t i e first later =
     split (slot_eqb r.slot t)
-    (λ p. let f : At b ≡ Absent i = rw p at e in let z : ◌≡◌ {A = ℕ} 0 1 = cc in absurd (omega arith))
+    (λ p. let f : Ok b ≡ Err i = rw p at e in let z : ◌≡◌ {A = ℕ} 0 1 = cc in absurd (omega arith))
     (λ p. split (slot_ltb t r.slot)
-    (λ q. let f : Absent b ≡ Absent i = rw (p, q) at e in first p q (cc))
+    (λ q. let f : Err b ≡ Err i = rw (p, q) at e in first p q (cc))
     (λ q. later p q (rw (p, q) at e)))
 
 -- Among none a slot is absent, at the first place.
-found_nowhere : {P : Type 0} (b : ℕ) (t : Slot) (i : ℕ) → place_from {A = Content} b t [] ≡ At i → P
+found_nowhere : {P : Type 0} (b : ℕ) (t : Slot) (i : ℕ) → place_from {A = Content} b t [] ≡ Ok i → P
 unfolding place_from
 found_nowhere b t i e = let z : ◌≡◌ {A = ℕ} 0 1 = cc in absurd (omega arith)
 
-absent_first : (b : ℕ) (t : Slot) (i : ℕ) → place_from {A = Content} b t [] ≡ Absent i → b ≡ i
+absent_first : (b : ℕ) (t : Slot) (i : ℕ) → place_from {A = Content} b t [] ≡ Err i → b ≡ i
 unfolding place_from
 absent_first b t i e = cc
 
 -- A found place is one of the records; an absent one is at most the end.
-found_from : (l : Layer) (b : ℕ) (t : Slot) (i : ℕ) → place_from b t l ≡ At i → (b ≤ i) × (i < b + length l)
+found_from : (l : Layer) (b : ℕ) (t : Slot) (i : ℕ) → place_from b t l ≡ Ok i → (b ≤ i) × (i < b + length l)
 found_from [] b t i e = found_nowhere b t i e
 found_from (r ∷ l) b t i e =
     found_cases r l b t i e
     (λ p z. (omega arith, omega arith))
     (λ p q f. let g = found_from l (suc b) t i f in let x : suc b ≤ i = g.0 in let y : i < suc b + length l = g.1 in (omega arith, omega arith))
 
-absent_from : (l : Layer) (b : ℕ) (t : Slot) (i : ℕ) → place_from b t l ≡ Absent i → (b ≤ i) × (i ≤ b + length l)
+absent_from : (l : Layer) (b : ℕ) (t : Slot) (i : ℕ) → place_from b t l ≡ Err i → (b ≤ i) × (i ≤ b + length l)
 absent_from [] b t i e = let z : b ≡ i = absent_first b t i e in (omega arith, omega arith)
 absent_from (r ∷ l) b t i e =
     absent_cases r l b t i e
     (λ p q z. (omega arith, omega arith))
     (λ p q f. let g = absent_from l (suc b) t i f in let x : suc b ≤ i = g.0 in let y : i ≤ suc b + length l = g.1 in (omega arith, omega arith))
 
-pub found_lt : (l : Layer) (t : Slot) (i : ℕ) → place_in t l ≡ At i → i < length l
+pub found_lt : (l : Layer) (t : Slot) (i : ℕ) → place_in t l ≡ Ok i → i < length l
 found_lt l t i e = let h : i < 0 + length l = (found_from l 0 t i e).1 in omega arith
 
-pub absent_le : (l : Layer) (t : Slot) (i : ℕ) → place_in t l ≡ Absent i → i ≤ length l
+pub absent_le : (l : Layer) (t : Slot) (i : ℕ) → place_in t l ≡ Err i → i ≤ length l
 absent_le l t i e = let h : i ≤ 0 + length l = (absent_from l 0 t i e).1 in omega arith
 
 -- The record that is found is the slot's, and the model's search finds its content.
-found_slot_from : (l : Layer) (b : ℕ) (t : Slot) (k : ℕ) → place_from b t l ≡ At (b + k) → (record_at k l).slot ≡ t
+found_slot_from : (l : Layer) (b : ℕ) (t : Slot) (k : ℕ) → place_from b t l ≡ Ok (b + k) → (record_at k l).slot ≡ t
 found_slot_from [] b t k e = found_nowhere b t (b + k) e
 found_slot_from (r ∷ l) b t zero e =
     found_cases r l b t (b + 0) e (λ p z. slot_eqb_true r.slot t p) (λ p q f. let h : suc b ≤ b + 0 = (found_from l (suc b) t (b + 0) f).0 in absurd (omega arith))
 found_slot_from (r ∷ l) b t (suc k) e =
     let m : b + suc k ≡ suc b + k = omega arith in
-    found_cases r l b t (b + suc k) e (λ p z. absurd (omega arith)) (λ p q f. found_slot_from l (suc b) t k (f ∙ ap At m))
+    found_cases r l b t (b + suc k) e (λ p z. absurd (omega arith)) (λ p q f. found_slot_from l (suc b) t k (f ∙ ap Ok m))
 
-pub found_slot : (l : Layer) (t : Slot) (i : ℕ) → place_in t l ≡ At i → (record_at i l).slot ≡ t
-found_slot l t i e = found_slot_from l 0 t i (e ∙ ap At (omega arith))
+pub found_slot : (l : Layer) (t : Slot) (i : ℕ) → place_in t l ≡ Ok i → (record_at i l).slot ≡ t
+found_slot l t i e = found_slot_from l 0 t i (e ∙ ap Ok (omega arith))
 
-found_content_from : (l : Layer) (b : ℕ) (t : Slot) (k : ℕ) → place_from b t l ≡ At (b + k) → find t l ≡ some (record_at k l).content
+found_content_from : (l : Layer) (b : ℕ) (t : Slot) (k : ℕ) → place_from b t l ≡ Ok (b + k) → find t l ≡ Some (record_at k l).content
 unfolding find
 found_content_from [] b t k e = found_nowhere b t (b + k) e
 found_content_from (r ∷ l) b t zero e = found_cases r l b t (b + 0) e (λ p z. rw p) (λ p q f. let h : suc b ≤ b + 0 = (found_from l (suc b) t (b + 0) f).0 in absurd (omega arith))
 found_content_from (r ∷ l) b t (suc k) e =
     let m : b + suc k ≡ suc b + k = omega arith in
-    found_cases r l b t (b + suc k) e (λ p z. absurd (omega arith)) (λ p q f. rw p (found_content_from l (suc b) t k (f ∙ ap At m)))
+    found_cases r l b t (b + suc k) e (λ p z. absurd (omega arith)) (λ p q f. rw p (found_content_from l (suc b) t k (f ∙ ap Ok m)))
 
-pub found_content : (l : Layer) (t : Slot) (i : ℕ) → place_in t l ≡ At i → find t l ≡ some (record_at i l).content
-found_content l t i e = found_content_from l 0 t i (e ∙ ap At (omega arith))
+pub found_content : (l : Layer) (t : Slot) (i : ℕ) → place_in t l ≡ Ok i → find t l ≡ Some (record_at i l).content
+found_content l t i e = found_content_from l 0 t i (e ∙ ap Ok (omega arith))
 
 -- A slot that is absent from records that rise has no content.
-find_below : (s t : Slot) (l : Layer) → slot_ltb t s ≡ true → rising_from s l ≡ true → find t l ≡ none
+find_below : (s t : Slot) (l : Layer) → slot_ltb t s ≡ true → rising_from s l ≡ true → find t l ≡ None
 unfolding find rising_from
 find_below s t [] p e = refl
 find_below s t (r ∷ l) p e =
@@ -204,25 +203,25 @@ find_below s t (r ∷ l) p e =
     let q : slot_ltb t r.slot ≡ true = slot_ltb_trans t s r.slot p (and_left x y e) in
     rw (slot_eqb_sym r.slot t ∙ slot_ltb_eqb t r.slot q) (find_below r.slot t l q (and_right x y e))
 
-absent_none_from : (l : Layer) (b : ℕ) (t : Slot) (i : ℕ) → rising l ≡ true → place_from b t l ≡ Absent i → find t l ≡ none
+absent_none_from : (l : Layer) (b : ℕ) (t : Slot) (i : ℕ) → rising l ≡ true → place_from b t l ≡ Err i → find t l ≡ None
 unfolding find
 absent_none_from [] b t i h e = refl
 absent_none_from (r ∷ l) b t i h e =
     absent_cases r l b t i e (λ p q z. rw p (find_below r.slot t l q h)) (λ p q f. rw p (absent_none_from l (suc b) t i (rising_rest r.slot l h) f))
 
-pub absent_none : (l : Layer) (t : Slot) (i : ℕ) → rising l ≡ true → place_in t l ≡ Absent i → find t l ≡ none
+pub absent_none : (l : Layer) (t : Slot) (i : ℕ) → rising l ≡ true → place_in t l ≡ Err i → find t l ≡ None
 absent_none l t i h e = absent_none_from l 0 t i h e
 
 -- What the model's insert does at the place.
-insert_found_from : (l : Layer) (b : ℕ) (t : Slot) (c : Content) (k : ℕ) → place_from b t l ≡ At (b + k) → insert t c l ≡ take k l ++ (record { slot = t; content = c } ∷ drop (suc k) l)
+insert_found_from : (l : Layer) (b : ℕ) (t : Slot) (c : Content) (k : ℕ) → place_from b t l ≡ Ok (b + k) → insert t c l ≡ take k l ++ (record { slot = t; content = c } ∷ drop (suc k) l)
 unfolding insert
 insert_found_from [] b t c k e = found_nowhere b t (b + k) e
 insert_found_from (r ∷ l) b t c zero e = found_cases r l b t (b + 0) e (λ p z. rw p) (λ p q f. let h : suc b ≤ b + 0 = (found_from l (suc b) t (b + 0) f).0 in absurd (omega arith))
 insert_found_from (r ∷ l) b t c (suc k) e =
     let m : b + suc k ≡ suc b + k = omega arith in
-    found_cases r l b t (b + suc k) e (λ p z. absurd (omega arith)) (λ p q f. rw (p, q) (ap (λ (x : Layer). r ∷ x) (insert_found_from l (suc b) t c k (f ∙ ap At m))))
+    found_cases r l b t (b + suc k) e (λ p z. absurd (omega arith)) (λ p q f. rw (p, q) (ap (λ (x : Layer). r ∷ x) (insert_found_from l (suc b) t c k (f ∙ ap Ok m))))
 
-insert_absent_from : (l : Layer) (b : ℕ) (t : Slot) (c : Content) (k : ℕ) → place_from b t l ≡ Absent (b + k) → insert t c l ≡ take k l ++ (record { slot = t; content = c } ∷ drop k l)
+insert_absent_from : (l : Layer) (b : ℕ) (t : Slot) (c : Content) (k : ℕ) → place_from b t l ≡ Err (b + k) → insert t c l ≡ take k l ++ (record { slot = t; content = c } ∷ drop k l)
 unfolding insert
 insert_absent_from [] b t c zero e = refl
 insert_absent_from [] b t c (suc k) e = let z : b ≡ b + suc k = absent_first b t (b + suc k) e in absurd (omega arith)
@@ -230,18 +229,18 @@ insert_absent_from (r ∷ l) b t c zero e =
     absent_cases r l b t (b + 0) e (λ p q z. rw (p, q)) (λ p q f. let h : suc b ≤ b + 0 = (absent_from l (suc b) t (b + 0) f).0 in absurd (omega arith))
 insert_absent_from (r ∷ l) b t c (suc k) e =
     let m : b + suc k ≡ suc b + k = omega arith in
-    absent_cases r l b t (b + suc k) e (λ p q z. absurd (omega arith)) (λ p q f. rw (p, q) (ap (λ (x : Layer). r ∷ x) (insert_absent_from l (suc b) t c k (f ∙ ap Absent m))))
+    absent_cases r l b t (b + suc k) e (λ p q z. absurd (omega arith)) (λ p q f. rw (p, q) (ap (λ (x : Layer). r ∷ x) (insert_absent_from l (suc b) t c k (f ∙ ap Err m))))
 
-pub insert_found : (l : Layer) (t : Slot) (c : Content) (i : ℕ) → place_in t l ≡ At i → insert t c l ≡ take i l ++ (record { slot = t; content = c } ∷ drop (i + 1) l)
-insert_found l t c i e = rw add-one (insert_found_from l 0 t c i (e ∙ ap At (omega arith)))
+pub insert_found : (l : Layer) (t : Slot) (c : Content) (i : ℕ) → place_in t l ≡ Ok i → insert t c l ≡ take i l ++ (record { slot = t; content = c } ∷ drop (i + 1) l)
+insert_found l t c i e = rw add-one (insert_found_from l 0 t c i (e ∙ ap Ok (omega arith)))
 
-pub insert_absent : (l : Layer) (t : Slot) (c : Content) (i : ℕ) → place_in t l ≡ Absent i → insert t c l ≡ take i l ++ (record { slot = t; content = c } ∷ drop i l)
-insert_absent l t c i e = insert_absent_from l 0 t c i (e ∙ ap Absent (omega arith))
+pub insert_absent : (l : Layer) (t : Slot) (c : Content) (i : ℕ) → place_in t l ≡ Err i → insert t c l ≡ take i l ++ (record { slot = t; content = c } ∷ drop i l)
+insert_absent l t c i e = insert_absent_from l 0 t c i (e ∙ ap Err (omega arith))
 
 -- The number of records after a record is set.
 count_suc : (p : Found) (n : ℕ) → suc (count_after p n) ≡ count_after p (suc n)
-count_suc (At i) n = refl
-count_suc (Absent i) n = omega arith
+count_suc (Ok i) n = refl
+count_suc (Err i) n = omega arith
 
 length_insert_from : (l : Layer) (b : ℕ) (t : Slot) (c : Content) → length (insert t c l) ≡ count_after (place_from b t l) (length l)
 unfolding place_from insert

@@ -1,4 +1,5 @@
 -- The records that bytes begin with, one by one.
+use Rattle.std.specs.Prelude.{None, Some}
 use Prim.Native.Nat.{ℕ, zero, suc, ◌+◌, ◌*◌, ◌<◌}
 use mathlib.Core.Path.{◌≡◌, refl, sym, ap, ap₂, ◌∙◌}
 use mathlib.Core.Bool.{true, false, not}
@@ -9,7 +10,6 @@ use lib.ListN.{length, drop, get_or}
 use lib.Seq.{drop-drop}
 use Rattle.layout.specs.Layout.{has_index, last_use_index, record_size, record_width, slot_width, value_index}
 use Rattle.model.specs.Numbers.{num}
-use Rattle.model.specs.declared.delta_snapshot.Held.TheVariants.{Nothing, Value as HeldValue}
 use Rattle.model.specs.Contents.{use_of, has_value}
 use Rattle.model.specs.Slots.{read_u256}
 use Rattle.model.specs.Layers.{Record}
@@ -67,10 +67,10 @@ pub has_value_at : (i : ℕ) (s : List ℕ) → not (eqb (get_or (words_at i s) 
 unfolding words_of
 has_value_at i s = sym (has_value_read (drop slot_width (words_at i s)))
 
-pub held_none : (i : ℕ) (s : List ℕ) → not (eqb (get_or (words_at i s) has_index 0) 0) ≡ false → Nothing ≡ (read_record (words_at i s)).content.held
+pub held_none : (i : ℕ) (s : List ℕ) → not (eqb (get_or (words_at i s) has_index 0) 0) ≡ false → None ≡ (read_record (words_at i s)).content.held
 unfolding words_of
 held_none i s e = split (eqb (get_or (words_at i s) has_index 0) 0) (λ q. rw q) (λ q. not_both (rw q) e)
 
-pub held_value : (i : ℕ) (s : List ℕ) → not (eqb (get_or (words_at i s) has_index 0) 0) ≡ true → HeldValue (read_u256 (drop value_index (words_at i s))) ≡ (read_record (words_at i s)).content.held
+pub held_value : (i : ℕ) (s : List ℕ) → not (eqb (get_or (words_at i s) has_index 0) 0) ≡ true → Some (read_u256 (drop value_index (words_at i s))) ≡ (read_record (words_at i s)).content.held
 unfolding words_of
 held_value i s e = split (eqb (get_or (words_at i s) has_index 0) 0) (λ q. not_both e (rw q)) (λ q. rw q)

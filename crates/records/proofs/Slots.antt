@@ -8,7 +8,7 @@ use native.Mathlib.Omega.{arith}
 use lib.Dec.{eqb, ltb}
 use lib.ListN.{take, drop, get_or}
 use lib.Seq.{drop-drop}
-use borrow.Author.Tests.{eq-eqb, ne_eqb, le-ltb}
+use borrow.Author.Tests.{eq-eqb, ne_eqb, le-ltb, ltb-true}
 use Rattle.layout.specs.Layout.{record_size, slot_width, value_index, value_offset}
 use Rattle.model.specs.declared.delta_snapshot.Slot.{Slot}
 use Rattle.model.specs.Numbers.{num}
@@ -16,8 +16,9 @@ use Rattle.model.specs.Slots.{slot_words, words_eqb, words_ltb, slot_eqb, slot_l
 use Rattle.model.proofs.SlotLaws.{split}
 use Rattle.words.specs.Parts.{part}
 use Rattle.image.specs.Image.{words_of, read_slot}
-use Rattle.records.specs.declared.Order.{Order}
-use Rattle.records.specs.declared.Order.TheVariants.{Less, Equal, Greater}
+use Rattle.std.specs.declared.cmp.Ordering.{Ordering}
+use Rattle.std.specs.Ordering.{nat_cmp}
+use Rattle.std.specs.declared.cmp.Ordering.TheVariants.{Less, Equal, Greater}
 use Rattle.records.specs.Records.{slot_order, words_at}
 
 -- Word i of the words from place `at` on.
@@ -61,7 +62,7 @@ value_words : (i : ℕ) (s : List ℕ) → words_of 5 (drop (i * record_size + v
 value_words i s = ap (words_of 5) (sym (drop-drop value_offset (i * record_size) s)) ∙ sym (words_drop value_index 5 (drop (i * record_size) s))
 
 -- How a list of words stands to another of as many, the highest first.
-unfoldable pub words_order : List ℕ → List ℕ → Order
+unfoldable pub words_order : List ℕ → List ℕ → Ordering
 words_order xs ys = cond (words_eqb xs ys) Equal (cond (words_ltb xs ys) Less Greater)
 
 pub slot_order_words : (at : ℕ) (s : List ℕ) (t : Slot) → words_order (words_from at s) (slot_words t) ≡ slot_order (read_slot (words_of slot_width (drop at s))) t
@@ -69,19 +70,22 @@ unfolding words_order slot_order slot_eqb slot_ltb
 slot_order_words at s t = sym (ap (λ (l : List ℕ). slot_order (read_slot l) t) (slot_read at s))
 
 -- The first words differ and decide; or they are equal and the rest decides. The first words are read as a and b.
-pub words_differ : {a b x y : ℕ} (xs ys : List ℕ) {r : Order} → r ≡ cond (ltb a b) Less Greater → a ≡ x → b ≡ y → (a ≡ b → ⊥) → r ≡ words_order (x ∷ xs) (y ∷ ys)
+pub words_differ : {a b x y : ℕ} (xs ys : List ℕ) {r : Ordering} → r ≡ nat_cmp a b → a ≡ x → b ≡ y → (a ≡ b → ⊥) → r ≡ words_order (x ∷ xs) (y ∷ ys)
 unfolding words_order words_eqb words_ltb
 words_differ {a} {b} {x} {y} xs ys p e f d =
     let g : eqb x y ≡ false = ne_eqb x y (λ q. d (e ∙ q ∙ sym f)) in
-    rw (g, ← e, ← f) (p ∙ split (ltb a b) (λ q. rw q) (λ q. rw q))
+    let h : eqb a b ≡ false = ne_eqb a b d in
+    rw (g, ← e, ← f) (p ∙ split (ltb a b) (λ q. rw q) (λ q. rw (q, h)))
 
 pub words_same : {a x y : ℕ} (xs ys : List ℕ) → a ≡ x → a ≡ y → words_order xs ys ≡ words_order (x ∷ xs) (y ∷ ys)
 unfolding words_order words_eqb words_ltb
 words_same {a} {x} {y} xs ys e f = rw (eq-eqb x y (sym e ∙ f), le-ltb x y (omega arith))
 
-pub words_end : Equal ≡ words_order [] []
-unfolding words_order words_eqb
-words_end = refl
+-- The last words decide.
+pub words_end : {a b x y : ℕ} {r : Ordering} → r ≡ nat_cmp a b → a ≡ x → b ≡ y → r ≡ words_order (x ∷ []) (y ∷ [])
+unfolding words_order words_eqb words_ltb
+words_end {a} {b} {x} {y} p e f =
+    rw (← e, ← f) (p ∙ split (ltb a b) (λ q. rw (q, ne_eqb a b (λ z. absurd (omega (arith, ltb-true a b q))))) (λ q. rw q (split (eqb a b) (λ z. rw z) (λ z. rw z))))
 
 -- A slot, and a value, of words read one by one.
 pub slot_taken : (at : ℕ) (s : List ℕ) {a0 a1 a2 a3 a4 a5 a6 : ℕ}

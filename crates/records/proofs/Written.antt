@@ -1,4 +1,5 @@
 -- Words written one after the other are their bytes placed.
+use Rattle.std.specs.Prelude.{Option}
 use Prim.Native.Nat.{ℕ, ◌+◌, ◌-◌, ◌*◌, ◌≤◌}
 use mathlib.Core.Path.{◌≡◌, refl, sym, ap, ap₂, ◌∙◌}
 use mathlib.Core.List.{List, [], ◌∷◌, ◌++◌, append_assoc, append-nil}
@@ -8,13 +9,13 @@ use lib.Seq.{take_at, drop_at, drop-drop, length-take-le}
 use Rattle.layout.specs.Layout.{record_size, record_width, slot_size, slot_width}
 use Rattle.model.specs.Numbers.{be}
 use Rattle.model.specs.declared.delta_snapshot.Content.{Content}
-use Rattle.model.specs.declared.delta_snapshot.Held.{Held}
-use Rattle.model.specs.Contents.{held_option, value_words, content_words}
+use Rattle.model.specs.Contents.{value_words, content_words}
 use Rattle.words.specs.Parts.{part, placed}
 use Rattle.words.specs.Moved.{moved}
 use Rattle.words.proofs.Moves.{gap_filled}
 use Rattle.image.specs.Image.{bytes_of}
 use Rattle.image.proofs.Words.{length_bytes_of}
+use Rattle.model.specs.declared.storage_memo.U256.{U256}
 
 pub bytes_append : (xs ys : List ℕ) → bytes_of (xs ++ ys) ≡ bytes_of xs ++ bytes_of ys
 unfolding bytes_of
@@ -86,9 +87,9 @@ seven_words at w0 w1 w2 w3 w4 w5 s e0 e1 e2 e3 e4 e5 w6 e6 h =
     word_more at 48 w6 (w0 ∷ w1 ∷ w2 ∷ w3 ∷ w4 ∷ w5 ∷ []) s refl (omega arith) p5 e6
 
 -- The words of a content, by what it holds.
-pub content_put : (at : ℕ) (c : Content) (h : Held) (s : List ℕ) {t : List ℕ} → c.held ≡ h → t ≡ placed at (bytes_of (c.used ∷ (value_words (held_option h) ++ (0 ∷ [])))) s
+pub content_put : (at : ℕ) (c : Content) (h : Option U256) (s : List ℕ) {t : List ℕ} → c.held ≡ h → t ≡ placed at (bytes_of (c.used ∷ (value_words (h) ++ (0 ∷ [])))) s
     → t ≡ placed at (bytes_of (content_words c)) s
-content_put at c h s e f = f ∙ ap (λ (x : Held). placed at (bytes_of (c.used ∷ (value_words (held_option x) ++ (0 ∷ [])))) s) (sym e)
+content_put at c h s e f = f ∙ ap (λ (x : Option U256). placed at (bytes_of (c.used ∷ (value_words (x) ++ (0 ∷ [])))) s) (sym e)
 
 -- A run moved up by a record's bytes, and a record's words in the gap.
 length_moved : (at len by : ℕ) (s : List ℕ) → at + by + len ≤ length s → length (moved at len by s) ≡ length s

@@ -1,5 +1,5 @@
 -- What the functions over a run of records say: the order of two slots, the place of a slot, a record's words.
-use Rattle.std.specs.Prelude.{ℕ, suc, ◌+◌, ◌*◌, ◌≤◌, ◌<◌, ◌≡◌, true, cond, List, [], ◌∷◌, length, drop, get_or}
+use Rattle.std.specs.Prelude.{ℕ, suc, ◌+◌, ◌*◌, ◌≤◌, ◌<◌, ◌≡◌, true, cond, List, [], ◌∷◌, length, drop, get_or, Err, Ok}
 use Rattle.layout.specs.Layout.{record_size, record_width, slot_width}
 use Rattle.model.specs.declared.delta_snapshot.Slot.{Slot}
 use Rattle.model.specs.Slots.{slot_eqb, slot_ltb}
@@ -7,19 +7,22 @@ use Rattle.model.specs.Layers.{LayerOf, Record, Layer}
 use Rattle.image.specs.Image.{words_of, read_slot, read_record}
 use Rattle.image.specs.WellFormed.{rising}
 use Rattle.image.specs.Area.{records_of, with_records}
-use Rattle.records.specs.declared.Order.{Order}
-use Rattle.records.specs.declared.Order.TheVariants.{Less, Equal, Greater}
-use Rattle.records.specs.declared.Found.{Found}
-use Rattle.records.specs.declared.Found.TheVariants.{At, Absent}
+use Rattle.std.specs.declared.result.Result.{Result}
+use Rattle.std.specs.declared.cmp.Ordering.{Ordering}
+use Rattle.std.specs.declared.cmp.Ordering.TheVariants.{Less, Equal, Greater}
 
 -- How a slot stands to another.
-unfoldable pub slot_order : Slot → Slot → Order
+unfoldable pub slot_order : Slot → Slot → Ordering
 slot_order a b = cond (slot_eqb a b) Equal (cond (slot_ltb a b) Less Greater)
+
+-- The place of a slot's record, or as the error where it would go.
+abbrev pub Found : Type 0
+Found = Result ℕ ℕ
 
 -- The place of a slot among records that rise and stand from place i on: where its record is, or where it would go.
 unfoldable pub place_from : {A : Type 0} → ℕ → Slot → LayerOf A → Found
-place_from i s [] = Absent i
-place_from i s (r ∷ l) = cond (slot_eqb r.slot s) (At i) (cond (slot_ltb s r.slot) (Absent i) (place_from (suc i) s l))
+place_from i s [] = Err i
+place_from i s (r ∷ l) = cond (slot_eqb r.slot s) (Ok i) (cond (slot_ltb s r.slot) (Err i) (place_from (suc i) s l))
 
 -- The same for records that stand from place 0 on.
 abbrev pub place_in : {A : Type 0} → Slot → LayerOf A → Found
@@ -27,13 +30,13 @@ place_in s l = place_from 0 s l
 
 -- A place as one number: even where the record is, odd where it would go.
 abbrev pub place_number : Found → ℕ
-place_number (At i) = 2 * i
-place_number (Absent i) = 2 * i + 1
+place_number (Ok i) = 2 * i
+place_number (Err i) = 2 * i + 1
 
 -- The number of records, of n before, after a record is set at a place.
 abbrev pub count_after : Found → ℕ → ℕ
-count_after (At i) n = n
-count_after (Absent i) n = n + 1
+count_after (Ok i) n = n
+count_after (Err i) n = n + 1
 
 -- Records whose slots stand in bytes, each at the beginning of an entry of `wide` bytes, and rise.
 pub record Entries (wide n : ℕ) (s : List ℕ) (l : Layer) : Type 0 where

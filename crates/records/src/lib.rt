@@ -11,26 +11,14 @@ ghost use Rattle.words.specs.Parts.{part, placed};
 ghost use Rattle.image.specs.Image.{words_of, bytes_of, read_slot, read_record};
 ghost use Rattle.image.specs.WellFormed.{rising};
 ghost use Rattle.image.specs.Area.{records_of};
-ghost use Rattle.records.specs.declared.Found.{Found};
-ghost use Rattle.records.specs.Records.{slot_order, place_in, place_number, Entries, words_at, Ready, Holds};
+ghost use Rattle.records.specs.Records.{Found, slot_order, place_in, place_number, Entries, words_at, Ready, Holds};
 
-use model::delta_snapshot::{Content, Held, Slot};
+use model::delta_snapshot::{Content, Slot};
 use model::storage_memo::{Address, U256};
+use std::cmp::Ordering;
 
-// How a slot stands to another.
-#[derive(Clone, Copy)]
-pub enum Order {
-    Less,
-    Equal,
-    Greater,
-}
-
-// The place of a slot's record, or where it would go.
-#[derive(Clone, Copy)]
-pub enum Found {
-    At(usize),
-    Absent(usize),
-}
+// The place of a slot's record, or as the error where it would go.
+pub type Found = Result<usize, usize>;
 
 // The slot in the seven words at `at`.
 pub fn slot_at(s: &[u8], at: usize) -> Slot
@@ -52,55 +40,39 @@ pub fn slot_at(s: &[u8], at: usize) -> Slot
     }
 }
 
-fn wide(x: u32) -> u64
-    ensures { result ≡ x }
-{
-    x as u64
-}
-
-// The order of two words that differ.
-fn unequal(a: u64, b: u64) -> Order
-    ensures { result ≡ cond (ltb a b) Order.Less Order.Greater }
-{
-    if a < b { Order::Less } else { Order::Greater }
-}
-
 // How the slot in the seven words at `at` stands to `slot`: the first word that differs decides.
 // The last two words are read together, so that the compiler puts the last read in place too.
-pub fn compare(s: &[u8], at: usize, slot: Slot) -> Order
+pub fn compare(s: &[u8], at: usize, slot: Slot) -> Ordering
     requires { at + slot_size ≤ length s.now }
     ensures { result ≡ slot_order (read_slot (words_of slot_width (drop at s.now))) slot }
 {
     let a = words::read_u64(s, at);
-    let b = wide(slot.address.w0);
+    let b = u64::from(slot.address.w0);
     if a != b {
-        return unequal(a, b);
+        return a.cmp(&b);
     }
     let a = words::read_u64(s, at + 8);
     if a != slot.address.w1 {
-        return unequal(a, slot.address.w1);
+        return a.cmp(&slot.address.w1);
     }
     let a = words::read_u64(s, at + 16);
     if a != slot.address.w2 {
-        return unequal(a, slot.address.w2);
+        return a.cmp(&slot.address.w2);
     }
     let a = words::read_u64(s, at + 24);
     if a != slot.index.w0 {
-        return unequal(a, slot.index.w0);
+        return a.cmp(&slot.index.w0);
     }
     let a = words::read_u64(s, at + 32);
     if a != slot.index.w1 {
-        return unequal(a, slot.index.w1);
+        return a.cmp(&slot.index.w1);
     }
     let a = words::read_u64(s, at + 40);
     let b = words::read_u64(s, at + 48);
     if a != slot.index.w2 {
-        return unequal(a, slot.index.w2);
+        return a.cmp(&slot.index.w2);
     }
-    if b != slot.index.w3 {
-        return unequal(b, slot.index.w3);
-    }
-    Order::Equal
+    b.cmp(&slot.index.w3)
 }
 
 // The last use of record i.
@@ -134,14 +106,14 @@ pub fn has_value(s: &[u8], i: usize) -> bool
 }
 
 // The value of record i, or none.
-pub fn held(s: &[u8], i: usize) -> Held
+pub fn held(s: &[u8], i: usize) -> Option<U256>
     requires { (i + 1) * record_size ≤ length s.now }
     ensures { result ≡ (read_record (words_at i s.now)).content.held }
 {
     if has_value(s, i) {
-        return Held::Value(value(s, i));
+        return Some(value(s, i));
     }
-    Held::Nothing
+    None
 }
 
 // The content of record i.
@@ -160,7 +132,7 @@ pub fn write_slot(s: &mut [u8], at: usize, slot: Slot)
     requires { at + slot_size ≤ length s.old }
     ensures { s.new ≡ placed at (bytes_of (slot_words slot)) s.old }
 {
-    words::write_u64(s, at, wide(slot.address.w0));
+    words::write_u64(s, at, u64::from(slot.address.w0));
     words::write_u64(s, at + 8, slot.address.w1);
     words::write_u64(s, at + 16, slot.address.w2);
     words::write_u64(s, at + 24, slot.index.w0);
@@ -190,8 +162,8 @@ pub fn write_content(s: &mut [u8], at: usize, c: Content)
 {
     let held = c.held;
     match held {
-        Held::Nothing => write_words(s, at, c.used, 0, 0, 0, 0, 0),
-        Held::Value(v) => write_words(s, at, c.used, 1, v.w0, v.w1, v.w2, v.w3),
+        None => write_words(s, at, c.used, 0, 0, 0, 0, 0),
+        Some(v) => write_words(s, at, c.used, 1, v.w0, v.w1, v.w2, v.w3),
     }
 }
 
@@ -205,11 +177,11 @@ fn search_number(s: &[u8], wide: usize, n: usize, slot: Slot) -> usize
     while lo < hi {
         let mid = lo + (hi - lo) / 2;
         match compare(s, mid * wide, slot) {
-            Order::Less => {
+            Ordering::Less => {
                 lo = mid + 1;
             }
-            Order::Equal => return 2 * mid,
-            Order::Greater => {
+            Ordering::Equal => return 2 * mid,
+            Ordering::Greater => {
                 hi = mid;
             }
         }
@@ -222,9 +194,9 @@ pub fn place_of(k: usize) -> Found
     ensures { (f : Found) → k ≡ place_number f → result ≡ f }
 {
     if k % 2 == 0 {
-        return Found::At(k / 2);
+        return Ok(k / 2);
     }
-    Found::Absent(k / 2)
+    Err(k / 2)
 }
 
 // The place of a slot among n entries of `wide` bytes each, which begin with their slots and rise.
@@ -264,11 +236,11 @@ pub fn set(s: &mut [u8], n: usize, place: Found, slot: Slot, c: Content) -> usiz
     ensures { Holds result s.new (insert slot c (records_of n s.old)) s.old }
 {
     match place {
-        Found::At(i) => {
+        Ok(i) => {
             write_content(s, i * layout::RECORD_SIZE + layout::LAST_USE_OFFSET, c);
             n
         }
-        Found::Absent(i) => {
+        Err(i) => {
             insert_at(s, n, i, slot, c);
             n + 1
         }
@@ -281,15 +253,12 @@ pub fn touch(s: &mut [u8], n: usize, place: Found, slot: Slot, used: u64) -> usi
     ensures { Holds result s.new (insert slot (touch used (find slot (records_of n s.old))) (records_of n s.old)) s.old }
 {
     match place {
-        Found::At(i) => {
+        Ok(i) => {
             words::write_u64(s, i * layout::RECORD_SIZE + layout::LAST_USE_OFFSET, used);
             n
         }
-        Found::Absent(i) => {
-            let c = Content {
-                used,
-                held: Held::Nothing,
-            };
+        Err(i) => {
+            let c = Content { used, held: None };
             insert_at(s, n, i, slot, c);
             n + 1
         }

@@ -1,56 +1,58 @@
 -- What the replies of the public calls mean in the model's terms, and what a call's contract says.
-use Rattle.std.specs.Prelude.{ℕ, ◌/◌, ◌≡◌, cond, List, length}
+use Rattle.std.specs.Prelude.{ℕ, ◌/◌, ◌≡◌, cond, List, length, Option, Ok, Err}
 use Rattle.model.specs.declared.storage_memo.U256.{U256}
 use Rattle.model.specs.declared.storage_memo.ReadAnchor.{ReadAnchor}
 use Rattle.model.specs.Advance as model
 use Rattle.model.specs.Entries.{addresses_of, writes_of, first_slots, members_of, flags_known}
-use Rattle.model.specs.Store.{Call, Prepared, on_store, at_anchor, advance, answer, opened, anchor_same, anchor_fresh, value, no_value, stored, advanced, waiting, listed, answered}
-use Rattle.model.specs.Refusals.{Answer, refuse, ok}
+use Rattle.model.specs.Store.{Call, Prepared, on_store, at_anchor, advance, answer, opened, anchor_same, anchor_fresh, value, value_report, stored, advanced, waiting, listed, answered}
+use Rattle.model.specs.Refusals.{Answer, refuse, ok, refusal_number}
+use Rattle.model.specs.declared.refusal.Refusal.{Refusal}
 use Rattle.image.specs.Image.{BytesCall, BytesResult, bytes_step}
 use Rattle.image.specs.Output.{output_after}
-use Rattle.replies.specs.declared.OpenReply.{OpenReply}
-use Rattle.replies.specs.declared.OpenReply.TheVariants.{Refused as open_refused, Opened}
-use Rattle.replies.specs.declared.InstallReply.{InstallReply}
-use Rattle.replies.specs.declared.InstallReply.TheVariants.{Refused as install_refused, Same, Fresh}
-use Rattle.replies.specs.declared.LookReply.{LookReply}
-use Rattle.replies.specs.declared.LookReply.TheVariants.{Refused as look_refused, Nothing, Value as look_value}
-use Rattle.replies.specs.declared.PutReply.{PutReply}
-use Rattle.replies.specs.declared.PutReply.TheVariants.{Refused as put_refused, Stored}
+use Rattle.std.specs.declared.result.Result.{Result}
+use Rattle.replies.specs.declared.Installed.{Installed}
+use Rattle.replies.specs.declared.Installed.TheVariants.{Same, Fresh}
 use Rattle.replies.specs.declared.DeltaReport.{DeltaReport}
-use Rattle.replies.specs.declared.AdvanceReply.{AdvanceReply}
-use Rattle.replies.specs.declared.AdvanceReply.TheVariants.{Refused as advance_refused, Advanced}
-use Rattle.replies.specs.declared.ReadReply.{ReadReply}
-use Rattle.replies.specs.declared.ReadReply.TheVariants.{Refused as read_refused, Value as read_value, Waiting}
-use Rattle.replies.specs.declared.TakeReply.{TakeReply}
-use Rattle.replies.specs.declared.TakeReply.TheVariants.{Refused as take_refused, Listed}
-use Rattle.replies.specs.declared.AnswerReply.{AnswerReply}
-use Rattle.replies.specs.declared.AnswerReply.TheVariants.{Refused as answer_refused, Answered}
+use Rattle.replies.specs.declared.ReadOutcome.{ReadOutcome}
+use Rattle.replies.specs.declared.ReadOutcome.TheVariants.{Value, Waiting}
+use Rattle.replies.specs.declared.Answered.{Answered}
 
 -- The replies -----------------------------------------------------------------------------------------
 
 -- A refusal is its number and nothing else: `refuse n` carries no count, document 01's "all counts 0".
 
 -- An open's reply.
+abbrev pub OpenReply : Type 0
+OpenReply = Result (Unit {0}) Refusal
+
 abbrev pub open_reply : OpenReply → Answer
-open_reply (open_refused n) = refuse n
-open_reply Opened = ok opened
+open_reply (Err e) = refuse (refusal_number e)
+open_reply (Ok x) = ok opened
 
 -- An install's reply.
+abbrev pub InstallReply : Type 0
+InstallReply = Result Installed Refusal
+
 abbrev pub install_reply : InstallReply → Answer
-install_reply (install_refused n) = refuse n
-install_reply Same = ok anchor_same
-install_reply Fresh = ok anchor_fresh
+install_reply (Err e) = refuse (refusal_number e)
+install_reply (Ok Same) = ok anchor_same
+install_reply (Ok Fresh) = ok anchor_fresh
 
 -- A look's or a get's reply.
+abbrev pub LookReply : Type 0
+LookReply = Result (Option U256) Refusal
+
 abbrev pub look_reply : LookReply → Answer
-look_reply (look_refused n) = refuse n
-look_reply Nothing = ok no_value
-look_reply (look_value v) = ok (value v)
+look_reply (Err e) = refuse (refusal_number e)
+look_reply (Ok o) = ok (value_report o)
 
 -- A put's reply.
+abbrev pub PutReply : Type 0
+PutReply = Result (Unit {0}) Refusal
+
 abbrev pub put_reply : PutReply → Answer
-put_reply (put_refused n) = refuse n
-put_reply Stored = ok stored
+put_reply (Err e) = refuse (refusal_number e)
+put_reply (Ok x) = ok stored
 
 -- An advance's report, with the output after the call: the applied slots are the output's first entries, as many as were applied.
 abbrev pub delta_report : DeltaReport → List ℕ → model.DeltaReport
@@ -64,25 +66,37 @@ delta_report r out =
     }
 
 -- An advance's reply, with its output after the call.
+abbrev pub AdvanceReply : Type 0
+AdvanceReply = Result DeltaReport Refusal
+
 abbrev pub advance_reply : AdvanceReply → List ℕ → Answer
-advance_reply (advance_refused n) out = refuse n
-advance_reply (Advanced r) out = ok (advanced (delta_report r out))
+advance_reply (Err e) out = refuse (refusal_number e)
+advance_reply (Ok r) out = ok (advanced (delta_report r out))
 
 -- A read's reply.
+abbrev pub ReadReply : Type 0
+ReadReply = Result ReadOutcome Refusal
+
 abbrev pub read_reply : ReadReply → Answer
-read_reply (read_refused n) = refuse n
-read_reply (read_value v) = ok (value v)
-read_reply (Waiting n) = ok (waiting n)
+read_reply (Err e) = refuse (refusal_number e)
+read_reply (Ok (Value v)) = ok (value v)
+read_reply (Ok (Waiting n)) = ok (waiting n)
 
 -- A take's reply, with its output after the call: the slots listed are the output's first entries, as many as the reply says.
+abbrev pub TakeReply : Type 0
+TakeReply = Result ℕ Refusal
+
 abbrev pub take_reply : TakeReply → List ℕ → Answer
-take_reply (take_refused n) out = refuse n
-take_reply (Listed n) out = ok (listed (first_slots n out))
+take_reply (Err e) out = refuse (refusal_number e)
+take_reply (Ok n) out = ok (listed (first_slots n out))
 
 -- An answer's reply.
+abbrev pub AnswerReply : Type 0
+AnswerReply = Result Answered Refusal
+
 abbrev pub answer_reply : AnswerReply → Answer
-answer_reply (answer_refused n) = refuse n
-answer_reply (Answered m e w) = ok (answered m e w)
+answer_reply (Err e) = refuse (refusal_number e)
+answer_reply (Ok r) = ok (answered r.members r.errors r.woken)
 
 -- The calls -------------------------------------------------------------------------------------------
 

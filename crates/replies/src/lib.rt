@@ -1,42 +1,32 @@
-// The replies of the public calls. Each is a refusal's number, or what the call did.
+// The replies of the public calls. Each is a refusal, or what the call did.
 #![tactic(auto)]
 
 use model::delta_snapshot::CompactionReport;
 use model::read_hub::CarryOutcome;
+use model::refusal::Refusal;
 use model::storage_memo::U256;
 
 // An open's reply.
-#[derive(Clone, Copy)]
-pub enum OpenReply {
-    Refused(u64),
-    Opened,
-}
+pub type OpenReply = Result<(), Refusal>;
 
-// An install's reply: whether the anchor was installed already.
-#[derive(Clone, Copy)]
-pub enum InstallReply {
-    Refused(u64),
+// Whether an installed anchor was installed already.
+#[derive(Clone, Copy, Debug, PartialEq, Eq)]
+pub enum Installed {
     Same,
     Fresh,
 }
 
+// An install's reply.
+pub type InstallReply = Result<Installed, Refusal>;
+
 // A look's or a get's reply: none, or the value.
-#[derive(Clone, Copy)]
-pub enum LookReply {
-    Refused(u64),
-    Nothing,
-    Value(U256),
-}
+pub type LookReply = Result<Option<U256>, Refusal>;
 
 // A put's reply.
-#[derive(Clone, Copy)]
-pub enum PutReply {
-    Refused(u64),
-    Stored,
-}
+pub type PutReply = Result<(), Refusal>;
 
 // How many writes were applied, how many of them overwrote, and how many were skipped (`AppliedWrites`).
-#[derive(Clone, Copy)]
+#[derive(Clone, Copy, Debug, PartialEq, Eq)]
 pub struct WriteCounts {
     pub applied: u64,
     pub overwritten: u64,
@@ -44,7 +34,7 @@ pub struct WriteCounts {
 }
 
 // An advance's report; the slots written are in its output.
-#[derive(Clone, Copy)]
+#[derive(Clone, Copy, Debug, PartialEq, Eq)]
 pub struct DeltaReport {
     pub outcome: CarryOutcome,
     pub writes: WriteCounts,
@@ -53,35 +43,29 @@ pub struct DeltaReport {
     pub compaction: CompactionReport,
 }
 
-// An advance's reply: its report.
-#[derive(Clone, Copy)]
-pub enum AdvanceReply {
-    Refused(u64),
-    Advanced(DeltaReport),
-}
+// An advance's reply.
+pub type AdvanceReply = Result<DeltaReport, Refusal>;
 
-// A read's reply: the value, or the slot's waiters.
-#[derive(Clone, Copy)]
-pub enum ReadReply {
-    Refused(u64),
+// What a read gave: the value, or the slot's waiters.
+#[derive(Clone, Copy, Debug, PartialEq, Eq)]
+pub enum ReadOutcome {
     Value(U256),
     Waiting(u64),
 }
 
+// A read's reply.
+pub type ReadReply = Result<ReadOutcome, Refusal>;
+
 // A take's reply: the number of slots listed.
-#[derive(Clone, Copy)]
-pub enum TakeReply {
-    Refused(u64),
-    Listed(u64),
+pub type TakeReply = Result<u64, Refusal>;
+
+// What an answer did: members, member errors and waiters woken.
+#[derive(Clone, Copy, Debug, PartialEq, Eq)]
+pub struct Answered {
+    pub members: u64,
+    pub errors: u64,
+    pub woken: u64,
 }
 
-// An answer's reply: members, member errors and waiters woken.
-#[derive(Clone, Copy)]
-pub enum AnswerReply {
-    Refused(u64),
-    Answered {
-        members: u64,
-        errors: u64,
-        woken: u64,
-    },
-}
+// An answer's reply.
+pub type AnswerReply = Result<Answered, Refusal>;

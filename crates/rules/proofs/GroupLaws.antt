@@ -1,15 +1,15 @@
 -- The laws of `group`, `newest_value` and `freshest`: one record more, and a layer more.
+use Rattle.std.specs.Prelude.{None, Option, Some, is_some}
 use mathlib.Core.Path.{◌≡◌, refl, sym, ap, ◌∙◌}
 use mathlib.Core.Bool.{Bool, true, false, ◌||◌, cond, true≢false}
 use mathlib.Core.List.{[], ◌∷◌, ◌++◌, append-nil}
-use mathlib.Core.Option.{Option, some, none}
 use Prim.Native.Nat.{ℕ, zero, suc, ◌+◌, ◌≤◌, ◌<◌, max}
 use lib.ListN.{length, take, get_or}
 use lib.Seq.{take-suc}
 use native.Mathlib.Omega.{arith}
 use Rattle.model.specs.declared.delta_snapshot.Slot.{Slot}
 use Rattle.model.specs.Slots.{Value, slot_eqb}
-use Rattle.model.specs.Contents.{last_use_of, value_of, own_value, use_of, has_value, or_else, max_option, is_some}
+use Rattle.model.specs.Contents.{last_use_of, value_of, own_value, use_of, has_value, or_else, max_option}
 use Rattle.model.specs.Layers.{LayerOf, Record, Layer}
 use Rattle.model.proofs.SlotLaws.{split}
 use Rattle.order.specs.Index.{no_record}
@@ -55,58 +55,58 @@ or_comm false b = sym (or_false b)
 -- What may be missing ---------------------------------------------------------------------------------------------
 
 pub or_else_assoc : (a b c : Option Value) → or_else (or_else a b) c ≡ or_else a (or_else b c)
-or_else_assoc none b c = refl
-or_else_assoc (some a) b c = refl
+or_else_assoc None b c = refl
+or_else_assoc (Some a) b c = refl
 
 pub max_option_assoc : (a b c : Option ℕ) → max_option (max_option a b) c ≡ max_option a (max_option b c)
-max_option_assoc none b c = refl
-max_option_assoc (some a) none c = refl
-max_option_assoc (some a) (some b) none = refl
-max_option_assoc (some a) (some b) (some c) = ap some (omega arith)
+max_option_assoc None b c = refl
+max_option_assoc (Some a) None c = refl
+max_option_assoc (Some a) (Some b) None = refl
+max_option_assoc (Some a) (Some b) (Some c) = ap Some (omega arith)
 
-pub or_else_none : (a : Option Value) → or_else a none ≡ a
-or_else_none none = refl
-or_else_none (some a) = refl
+pub or_else_none : (a : Option Value) → or_else a None ≡ a
+or_else_none None = refl
+or_else_none (Some a) = refl
 
-max_option_none : (a : Option ℕ) → max_option a none ≡ a
-max_option_none none = refl
-max_option_none (some a) = refl
+max_option_none : (a : Option ℕ) → max_option a None ≡ a
+max_option_none None = refl
+max_option_none (Some a) = refl
 
 -- Whether something of two is there.
 pub is_some_or_else : (a b : Option Value) → is_some (or_else a b) ≡ (is_some a || is_some b)
-is_some_or_else none b = refl
-is_some_or_else (some a) b = refl
+is_some_or_else None b = refl
+is_some_or_else (Some a) b = refl
 
-pub is_some_max : (o : Option ℕ) (u : ℕ) → is_some (max_option o (some u)) ≡ true
-is_some_max none u = refl
-is_some_max (some a) u = refl
+pub is_some_max : (o : Option ℕ) (u : ℕ) → is_some (max_option o (Some u)) ≡ true
+is_some_max None u = refl
+is_some_max (Some a) u = refl
 
 -- A use, or 0 for none.
 abbrev pub or_zero : Option ℕ → ℕ
-or_zero none = 0
-or_zero (some u) = u
+or_zero None = 0
+or_zero (Some u) = u
 
 pub or_zero_max : (a b : Option ℕ) → or_zero (max_option a b) ≡ max (or_zero a) (or_zero b)
-or_zero_max none b = omega arith
-or_zero_max (some a) none = omega arith
-or_zero_max (some a) (some b) = refl
+or_zero_max None b = omega arith
+or_zero_max (Some a) None = omega arith
+or_zero_max (Some a) (Some b) = refl
 
 -- One record more ---------------------------------------------------------------------------------------------------
 
 -- A newer record.
-pub newest_snoc : (g : Layer) (r : Record) → newest_value (g ++ (r ∷ [])) ≡ or_else (value_of (some r.content)) (newest_value g)
+pub newest_snoc : (g : Layer) (r : Record) → newest_value (g ++ (r ∷ [])) ≡ or_else (value_of (Some r.content)) (newest_value g)
 unfolding newest_value
-newest_snoc [] r = sym (or_else_none (value_of (some r.content)))
+newest_snoc [] r = sym (or_else_none (value_of (Some r.content)))
 newest_snoc (q ∷ g) r =
-    ap (λ (o : Option Value). or_else o (value_of (some q.content))) (newest_snoc g r)
-    ∙ or_else_assoc (value_of (some r.content)) (newest_value g) (value_of (some q.content))
+    ap (λ (o : Option Value). or_else o (value_of (Some q.content))) (newest_snoc g r)
+    ∙ or_else_assoc (value_of (Some r.content)) (newest_value g) (value_of (Some q.content))
 
-pub freshest_snoc : (g : Layer) (r : Record) → freshest (g ++ (r ∷ [])) ≡ max_option (last_use_of (some r.content)) (freshest g)
+pub freshest_snoc : (g : Layer) (r : Record) → freshest (g ++ (r ∷ [])) ≡ max_option (last_use_of (Some r.content)) (freshest g)
 unfolding freshest
-freshest_snoc [] r = sym (max_option_none (last_use_of (some r.content)))
+freshest_snoc [] r = sym (max_option_none (last_use_of (Some r.content)))
 freshest_snoc (q ∷ g) r =
-    ap (λ (o : Option ℕ). max_option o (last_use_of (some q.content))) (freshest_snoc g r)
-    ∙ max_option_assoc (last_use_of (some r.content)) (freshest g) (last_use_of (some q.content))
+    ap (λ (o : Option ℕ). max_option o (last_use_of (Some q.content))) (freshest_snoc g r)
+    ∙ max_option_assoc (last_use_of (Some r.content)) (freshest g) (last_use_of (Some q.content))
 
 -- Records with a value have a use.
 pub use_of_valued : (g : Layer) → is_some (newest_value g) ≡ true → is_some (freshest g) ≡ true
@@ -129,4 +129,4 @@ module _ {A : Type 0} (f : A → Record → A) where
   pub along_low : (low : A → ℕ) → ((a : A) (r : Record) → low (f a r) ≡ max (low a) (use_of r.content)) → (a : A) (g : Layer) → low (along f a g) ≡ max (low a) (or_zero (freshest g))
   unfolding along freshest
   along_low low step a [] = omega arith
-  along_low low step a (r ∷ g) = omega (arith, along_low low step (f a r) g, step a r, or_zero_max (freshest g) (last_use_of (some r.content)))
+  along_low low step a (r ∷ g) = omega (arith, along_low low step (f a r) g, step a r, or_zero_max (freshest g) (last_use_of (Some r.content)))

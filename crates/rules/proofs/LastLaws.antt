@@ -1,8 +1,8 @@
 -- A record's rules by the last record of its slot below: where that one is right, its use is the freshest, and there is a value.
+use Rattle.std.specs.Prelude.{None, Option, Some, is_some}
 use mathlib.Core.Path.{◌≡◌, refl, sym, ap, ap₂, subst, ◌∙◌}
 use mathlib.Core.Bool.{Bool, true, false, not, ◌&&◌, ◌||◌}
 use mathlib.Core.List.{List, [], ◌∷◌, ◌++◌}
-use mathlib.Core.Option.{Option, some, none}
 use Prim.Native.Nat.{ℕ, zero, suc, ◌+◌, ◌-◌, ◌≤◌, ◌<◌}
 use native.Mathlib.Omega.{arith}
 use lib.Dec.{leb, eqb}
@@ -12,12 +12,12 @@ use borrow.Author.Tests.{leb-true, eqb-true, eqb-false}
 use Rattle.model.specs.declared.delta_snapshot.Slot.{Slot}
 use Rattle.model.specs.declared.delta_snapshot.Retention.{Retention}
 use Rattle.model.specs.Slots.{LastUse, slot_eqb}
-use Rattle.model.specs.Contents.{last_use_of, own_value, is_some, at_most, content_ok, top_content_ok, use_of, has_value}
+use Rattle.model.specs.Contents.{last_use_of, own_value, at_most, content_ok, top_content_ok, use_of, has_value}
 use Rattle.model.specs.Layers.{Record, Layer}
 use Rattle.model.proofs.SlotLaws.{split, and_left, and_right, slot_eqb_refl, slot_eqb_true}
 use Rattle.image.specs.Area.{records_of}
-use Rattle.order.specs.Index.{slot_at, no_record}
-use Rattle.order.proofs.RecordLaws.{length_records_of, record_at}
+use Rattle.order.specs.Index.{no_record}
+use Rattle.order.proofs.RecordLaws.{length_records_of, record_slot}
 use Rattle.chains.specs.Chains.{Last, LastOfSlot}
 use Rattle.rules.specs.Rules.{group, newest_value, freshest, rule, rules_from, cross_rules, oldest_use, broken, broken_over}
 use Rattle.rules.proofs.GroupLaws.{or_zero, or_zero_max, is_some_or_else, group_more, group_others, newest_snoc, freshest_snoc, use_of_valued}
@@ -29,8 +29,8 @@ record Say (g : Layer) (any : Bool) (low : ℕ) : Type 0 where
   low_is : or_zero (freshest g) ≡ low
 
 low_most : (f : Option LastUse) (u : ℕ) → at_most f u ≡ true → or_zero f ≤ u
-low_most none u e = omega arith
-low_most (some w) u e = leb-true w u e
+low_most None u e = omega arith
+low_most (Some w) u e = leb-true w u e
 
 -- A right record, over those of its slot below: with it there is a value, and its use is the freshest.
 right_says : (now : ℕ) (g : Layer) (r : Record) → content_ok now (newest_value g) (freshest g) r.content ≡ true → Say (g ++ (r ∷ [])) true (use_of r.content)
@@ -40,7 +40,7 @@ right_says now g r e =
     let c : at_most (freshest g) (use_of r.content) ≡ true = and_left _ (leb (use_of r.content) now) b in
     record {
       any_is = ap is_some (newest_snoc g r) ∙ is_some_or_else (own_value r.content) (newest_value g) ∙ a;
-      low_is = ap or_zero (freshest_snoc g r) ∙ omega (arith, or_zero_max (last_use_of (some r.content)) (freshest g), low_most (freshest g) (use_of r.content) c);
+      low_is = ap or_zero (freshest_snoc g r) ∙ omega (arith, or_zero_max (last_use_of (Some r.content)) (freshest g), low_most (freshest g) (use_of r.content) c);
     }
 
 -- The records below record k are right.
@@ -118,10 +118,6 @@ ruled_less : (R : Retention) (now top i : ℕ) (rs : Layer) → i < length rs �
 ruled_less R now top i rs h e q = sym q.rest ∙ rules_step R now top rs i h ∙ rw e
 
 -- The records that bytes begin with.
-record_slot : (n k : ℕ) (s : List ℕ) → k < n → (get_or (records_of n s) k no_record).slot ≡ slot_at k s
-unfolding slot_at
-record_slot n k s h = ap (λ (r : Record). r.slot) (record_at n k s h)
-
 last_record : (n i p : ℕ) (s : List ℕ) → i < n → LastOfSlot s i p → Last (λ k. (get_or (records_of n s) k no_record).slot ≡ (get_or (records_of n s) i no_record).slot) i p
 last_record n i p s h l = record {
   low = l.low;

@@ -1,8 +1,8 @@
 -- What the rules mean for layers that rise: each record is right over the layers below, and in the top its freshest use in the base serves.
+use Rattle.std.specs.Prelude.{None, Option, Some}
 use mathlib.Core.Path.{◌≡◌, refl, sym, ap, ap₂, ◌∙◌}
 use mathlib.Core.Bool.{Bool, true, false, not, ◌&&◌, ◌||◌}
 use mathlib.Core.List.{List, [], ◌∷◌, ◌++◌, append_assoc, append-nil}
-use mathlib.Core.Option.{Option, some, none}
 use Prim.Native.Nat.{ℕ, suc, ◌+◌, ◌≤◌, ◌<◌}
 use native.Mathlib.Omega.{arith}
 use lib.Dec.{leb}
@@ -48,8 +48,8 @@ none_after s (r ∷ l) e =
 
 -- A slot's records in such a layer are the one that a search finds, or none.
 data Found {A : Type 0} : LayerOf A → Option A → Type 0 where
-  nothing : Found [] none
-  one : (r : RecordOf A) → Found (r ∷ []) (some r.content)
+  nothing : Found [] None
+  one : (r : RecordOf A) → Found (r ∷ []) (Some r.content)
 
 found : {A : Type 0} (s : Slot) (l : LayerOf A) → rising l ≡ true → Found (group s l) (find s l)
 unfolding group find

@@ -1,5 +1,4 @@
 -- The laws behind the contracts of `rules`, and what the rules mean for layers.
-pub mod FieldLaws
 pub mod GroupLaws
 pub mod RuleLaws
 pub mod LayerLaws

@@ -1,8 +1,8 @@
 -- The walk that holds each record against its rules finds none broken exactly where the rules hold.
+use Rattle.std.specs.Prelude.{None, Option, Some, is_some}
 use mathlib.Core.Path.{◌≡◌, refl, sym, ap, ap₂, subst, ◌∙◌}
 use mathlib.Core.Bool.{Bool, true, false, not, ◌&&◌, ◌||◌, cond, true≢false}
 use mathlib.Core.List.{List, [], ◌∷◌, ◌++◌, map}
-use mathlib.Core.Option.{Option, some, none}
 use Prim.Native.Nat.{ℕ, zero, suc, ◌+◌, ◌*◌, ◌≤◌, ◌<◌, ◌-◌, max}
 use native.Mathlib.Omega.{arith}
 use lib.Dec.{leb, ltb, eqb}
@@ -15,7 +15,7 @@ use Rattle.model.specs.declared.delta_snapshot.Retention.{Retention}
 use Rattle.model.specs.declared.delta_snapshot.Retention.TheVariants.{Unbounded, IdleBlocks}
 use Rattle.model.specs.Slots.{Value, LastUse, slot_words, slot_eqb, serves}
 use Rattle.model.specs.declared.delta_snapshot.Content.{Content}
-use Rattle.model.specs.Contents.{last_use_of, own_value, is_some, at_most, content_ok, use_serves, top_content_ok, use_of, has_value}
+use Rattle.model.specs.Contents.{last_use_of, own_value, at_most, content_ok, use_serves, top_content_ok, use_of, has_value}
 use Rattle.model.specs.Layers.{Record, Layer}
 use Rattle.model.proofs.SlotLaws.{split, and_left, and_right, or_right}
 use Rattle.image.specs.Area.{records_of}
@@ -69,11 +69,11 @@ content_broken R now t c h f q = go (has_value c) (use_of c) h f q
   where
     go : (has : Bool) (u : LastUse) (h : Option Value) (f : Option LastUse) → (is_some h ≡ true → is_some f ≡ true)
         → ((has || is_some h) && (at_most f u && leb u now) && (not t || (has || use_serves R now f))) ≡ not (broken (oldest_use R now) now t has (is_some h) (or_zero f) u)
-    go false u none f q = none_valued (ltb u (or_zero f)) (ltb now u)
-    go false u (some v) none q = absurd (true≢false (sym (q refl)))
-    go false u (some v) (some w) q = rw (leb_not w u, leb_not u now, serves_oldest R w now) (three (ltb u w) (ltb now u) t (ltb w (oldest_use R now)))
-    go true u h none q = rw (leb_not u now, le-ltb u 0 (omega arith)) (two false (ltb now u) t)
-    go true u h (some w) q = rw (leb_not w u, leb_not u now) (two (ltb u w) (ltb now u) t)
+    go false u None f q = none_valued (ltb u (or_zero f)) (ltb now u)
+    go false u (Some v) None q = absurd (true≢false (sym (q refl)))
+    go false u (Some v) (Some w) q = rw (leb_not w u, leb_not u now, serves_oldest R w now) (three (ltb u w) (ltb now u) t (ltb w (oldest_use R now)))
+    go true u h None q = rw (leb_not u now, le-ltb u 0 (omega arith)) (two false (ltb now u) t)
+    go true u h (Some w) q = rw (leb_not w u, leb_not u now) (two (ltb u w) (ltb now u) t)
 
 -- What is known of a slot's records ---------------------------------------------------------------------------------
 
@@ -104,7 +104,7 @@ record Knows (m : Met) (g : Layer) : Type 0 where
 knows_more : (o now : ℕ) (t : Bool) (m : Met) (g : Layer) (r : Record) → Knows m g → Knows (meet o now t m r.content) (g ++ (r ∷ []))
 knows_more o now t m g r k = record {
   any_is = ap (λ (a : Bool). a || has_value r.content) k.any_is ∙ or_comm (is_some (newest_value g)) (has_value r.content) ∙ sym (is_some_or_else (own_value r.content) (newest_value g)) ∙ ap is_some (sym (newest_snoc g r));
-  low_is = omega (arith, k.low_is, or_zero_max (last_use_of (some r.content)) (freshest g)) ∙ ap or_zero (sym (freshest_snoc g r));
+  low_is = omega (arith, k.low_is, or_zero_max (last_use_of (Some r.content)) (freshest g)) ∙ ap or_zero (sym (freshest_snoc g r));
 }
 
 along_append : {A B : Type 0} (f : A → B → A) (a : A) (xs ys : List B) → along f a (xs ++ ys) ≡ along f (along f a xs) ys

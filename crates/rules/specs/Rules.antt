@@ -1,6 +1,5 @@
 -- The rules across layers of document 01's well-formed store, over its records as they stand: the lowest layer's first, the top's last.
-use Rattle.std.specs.Prelude.{ℕ, zero, suc, ◌-◌, ◌≡◌, Bool, true, false, not, ◌&&◌, ◌||◌, cond, List, [], ◌∷◌, ◌++◌, leb, ltb, length, get_or}
-use Rattle.std.proofs.Math.Option.{Option, some, none}
+use Rattle.std.specs.Prelude.{ℕ, zero, suc, ◌-◌, Bool, true, false, not, ◌&&◌, ◌||◌, cond, List, [], ◌∷◌, ◌++◌, leb, ltb, length, get_or, None, Option, Some}
 use Rattle.model.specs.declared.delta_snapshot.Slot.{Slot}
 use Rattle.model.specs.declared.delta_snapshot.Retention.{Retention}
 use Rattle.model.specs.declared.delta_snapshot.Retention.TheVariants.{Unbounded, IdleBlocks}
@@ -9,8 +8,6 @@ use Rattle.model.specs.Contents.{last_use_of, value_of, or_else, max_option, con
 use Rattle.model.specs.Layers.{LayerOf, Record, Layer, held_value, freshest_use}
 use Rattle.image.specs.WellFormed.{every, rising}
 use Rattle.order.specs.Index.{no_record}
-use Rattle.rules.specs.declared.Verdict.{Verdict}
-use Rattle.rules.specs.declared.Verdict.TheVariants.{Hold, Broken, Open}
 
 -- The records of a slot, in their order: the lowest layer's first.
 unfoldable pub group : {A : Type 0} → Slot → LayerOf A → LayerOf A
@@ -19,12 +16,12 @@ group s (r ∷ rs) = cond (slot_eqb r.slot s) (r ∷ group s rs) (group s rs)
 
 -- The newest value of some records of one slot, and their freshest use.
 unfoldable pub newest_value : Layer → Option Value
-newest_value [] = none
-newest_value (r ∷ g) = or_else (newest_value g) (value_of (some r.content))
+newest_value [] = None
+newest_value (r ∷ g) = or_else (newest_value g) (value_of (Some r.content))
 
 unfoldable pub freshest : Layer → Option LastUse
-freshest [] = none
-freshest (r ∷ g) = max_option (freshest g) (last_use_of (some r.content))
+freshest [] = None
+freshest (r ∷ g) = max_option (freshest g) (last_use_of (Some r.content))
 
 -- A record's rules, over the records below it: without a value it has a valued one of its slot below, and in the top the freshest use below serves; no use below is above its own, which does not exceed the installed number.
 unfoldable pub rule : Retention → ℕ → Bool → Layer → Record → Bool
@@ -68,9 +65,3 @@ broken oldest now in_top has any low u = ltb u low || (ltb now u || (not has && 
 abbrev pub broken_over : ℕ → ℕ → Bool → Layer → ℕ → ℕ → Bool
 broken_over oldest now in_top rs i zero = broken oldest now in_top (has_value (get_or rs i no_record).content) false 0 (use_of (get_or rs i no_record).content)
 broken_over oldest now in_top rs i (suc k) = broken oldest now in_top (has_value (get_or rs i no_record).content) true (use_of (get_or rs k no_record).content) (use_of (get_or rs i no_record).content)
-
--- What the check by a table says of whether the rules hold.
-abbrev pub Says : Verdict → Bool → Type 0
-Says Hold b = b ≡ true
-Says Broken b = b ≡ false
-Says Open b = Unit {0}

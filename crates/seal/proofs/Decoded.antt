@@ -1,9 +1,9 @@
 -- The store that an advance begins is well formed, and its bytes are that store.
+use Rattle.std.specs.Prelude.{Option, Some}
 use Prim.Native.Nat.{ℕ, suc, ◌+◌, ◌≤◌}
 use mathlib.Core.Path.{◌≡◌, refl, ap, subst}
 use mathlib.Core.Bool.{Bool, true, false}
 use mathlib.Core.List.{List, [], ◌∷◌}
-use mathlib.Core.Option.{Option, some}
 use native.Mathlib.Omega.{arith}
 use lib.Dec.{ltb}
 use lib.ListN.{length}
@@ -32,7 +32,7 @@ config_right : (st : Store) → well_formed st ≡ true → config_ok st.config 
 unfolding well_formed
 config_right st e = and_left (config_ok st.config) _ e
 
-begun_right : (cfg : Config) (a : ReadAnchor) (b : List Layer) → config_ok cfg ≡ true → GenerationOk cfg (new_generation a b []) → record_count b ≤ cfg.capacity → well_formed (record { config = cfg; installed = some (new_generation a b []) }) ≡ true
+begun_right : (cfg : Config) (a : ReadAnchor) (b : List Layer) → config_ok cfg ≡ true → GenerationOk cfg (new_generation a b []) → record_count b ≤ cfg.capacity → well_formed (record { config = cfg; installed = Some (new_generation a b []) }) ≡ true
 unfolding well_formed record_count
 begun_right cfg a b c k h = and_intro _ _ c (generation_ok_parts cfg (new_generation a b []) k (le-ltb cfg.capacity (record_count ([] ∷ b)) (omega arith)))
 
@@ -42,7 +42,7 @@ unfolding record_count
 cold_decodes s w child e f =
     let cfg : Config = (store_of s).config in
     let c : config_ok cfg ≡ true = config_right (store_of s) (store_in s e).right in
-    decode_image (record { config = cfg; installed = some (new_generation child void_base []) }) _ (begun_right cfg child void_base c (fresh_ok cfg child f) (omega arith))
+    decode_image (record { config = cfg; installed = Some (new_generation child void_base []) }) _ (begun_right cfg child void_base c (fresh_ok cfg child f) (omega arith))
 
 -- A fold leaves no more records, and a seal keeps their number.
 compact_few : (s : List ℕ) (due : Bool) → Installed s → record_count (compact_if due (store_of s).config.retention (generation_of s).anchor.number (generation_of s).base).base ≤ record_count (generation_of s).base
@@ -76,7 +76,7 @@ carried_decodes s w child h f e =
     let ok : generation_ok cfg g ≡ true = installed_right s h in
     let few : length g.top + record_count g.base ≤ cfg.capacity = bytes.facts.few_records in
     let k : GenerationOk cfg (new_generation child b []) = carry_ok cfg child (record { skip = 0; relevance = []; writes = [] }) f refl g (generation_parts cfg g ok) (depth_some cfg c) e in
-    decode_image (record { config = cfg; installed = some (new_generation child b []) }) _
+    decode_image (record { config = cfg; installed = Some (new_generation child b []) }) _
     (begun_right cfg child b c k (omega (arith, seal_few g.top (compacted cfg g).base, compact_few s (ltb cfg.max_depth (length g.base)) h)))
 
 -- What the next steps of an advance find in the work area.
@@ -87,7 +87,7 @@ pub record Begun (b : List ℕ) (cfg : Config) (child : ReadAnchor) (base : List
 
 begun_in : (b : List ℕ) (cfg : Config) (child : ReadAnchor) (base : List Layer) → decode b ≡ begun_on cfg child base → Begun b cfg child base
 begun_in b cfg child base e =
-    let st : Store = record { config = cfg; installed = some (new_generation child base []) } in
+    let st : Store = record { config = cfg; installed = Some (new_generation child base []) } in
     record { holds = installed b st (new_generation child base []) e refl; config_is = ap (λ (x : Store). x.config) (store_is b st e); generation_of_it = generation_is b st (new_generation child base []) e refl }
 
 pub cold_begun : (s w : List ℕ) (child : ReadAnchor) → IsStore s → anchor_fits child ≡ true → Begun (overlay (begun_on (store_of s).config child void_base) w) (store_of s).config child void_base

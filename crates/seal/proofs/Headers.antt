@@ -1,8 +1,8 @@
 -- The bytes of a header as it is written: empty, with layer ends copied, with a layer more; and the image of a store that begins over a base.
+use Rattle.std.specs.Prelude.{Some}
 use Prim.Native.Nat.{ℕ, pred, ◌+◌, ◌-◌, ◌*◌, ◌≤◌, ◌<◌}
 use mathlib.Core.Path.{◌≡◌, refl, sym, ap, ap₂, ◌∙◌}
 use mathlib.Core.List.{List, [], ◌∷◌, ◌++◌, append_assoc, append-nil}
-use mathlib.Core.Option.{some}
 use native.Mathlib.Omega.{arith}
 use lib.ListN.{length, drop, replicate, length-append, length-replicate, replicate-append-replicate}
 use lib.Seq.{take_at, drop_at, drop-drop}
@@ -166,7 +166,7 @@ last_regroup : (c g e a r : List ℕ) → c ++ (g ++ (e ++ (a ++ r))) ≡ (c ++ 
 last_regroup c g e a r = simp append_assoc
 
 begun_image : (cfg : Config) (a : ReadAnchor) (b : List Layer) →
-    image (record { config = cfg; installed = some (new_generation a b []) }) ≡ bytes_of (header_words cfg a (pred (length b)) (record_count b) (layer_ends b)) ++ record_bytes cfg.capacity (flat_records b)
+    image (record { config = cfg; installed = Some (new_generation a b []) }) ≡ bytes_of (header_words cfg a (pred (length b)) (record_count b) (layer_ends b)) ++ record_bytes cfg.capacity (flat_records b)
 unfolding image image_words header_words record_count flat_records all_pending_words
 begun_image cfg a b =
     let r : List ℕ = padded (record_width * cfg.capacity) (all_record_words (flat_records b)) in

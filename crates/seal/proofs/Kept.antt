@@ -1,9 +1,9 @@
 -- A seal without a fold: the parts of the store that are copied, and what they come to.
+use Rattle.std.specs.Prelude.{Option, Some}
 use Prim.Native.Nat.{ℕ, pred, ◌+◌, ◌-◌, ◌*◌, ◌≤◌}
 use mathlib.Core.Path.{◌≡◌, refl, sym, ap, ap₂, ◌∙◌}
 use mathlib.Core.Bool.{cond}
 use mathlib.Core.List.{List, [], ◌∷◌, ◌++◌, append_assoc}
-use mathlib.Core.Option.{Option, some}
 use native.Mathlib.Omega.{arith}
 use lib.ListN.{length, take, drop, replicate, length-append}
 use lib.Seq.{take_at, drop_at}
@@ -67,7 +67,7 @@ module _ (b : List ℕ) (f : Bytes b) (h : Installed b) where
   size = store_size st.config.capacity
 
   abbrev all_words : List ℕ
-  all_words = config_words st.config ++ installed_words st.config.capacity (some g)
+  all_words = config_words st.config ++ installed_words st.config.capacity (Some g)
 
   known : GenerationBytes b st g
   known = generation_in b h

@@ -1,6 +1,5 @@
 -- The store that an advance builds before its writes, and the header of such a store.
-use Rattle.std.specs.Prelude.{ℕ, ◌+◌, ◌-◌, ◌*◌, ◌≡◌, List, [], ◌∷◌, ◌++◌, length, replicate}
-use Rattle.std.proofs.Math.Option.{Option, some, none}
+use Rattle.std.specs.Prelude.{ℕ, ◌+◌, ◌-◌, ◌*◌, ◌≡◌, List, [], ◌∷◌, ◌++◌, length, replicate, None, Option, Some}
 use Rattle.layout.specs.Layout.{awaiting_table, depth_offset, ends_limit, ends_offset, record_size, records_offset}
 use Rattle.model.specs.declared.storage_memo.ReadAnchor.{ReadAnchor}
 use Rattle.model.specs.declared.delta_snapshot.CompactionReport.{CompactionReport}
@@ -13,8 +12,8 @@ use Rattle.image.specs.Image.{bytes_of, hash_words, all_record_words, padded, co
 
 -- The anchor of what is installed, or none.
 abbrev pub anchor_of : Option Generation → Option ReadAnchor
-anchor_of none = none
-anchor_of (some g) = some g.anchor
+anchor_of None = None
+anchor_of (Some g) = Some g.anchor
 
 -- The installed anchor of a store, or none: the parent of a child.
 abbrev pub installed_anchor : Store → Option ReadAnchor
@@ -22,7 +21,7 @@ installed_anchor st = anchor_of st.installed
 
 -- A store with a generation over a base, before any write.
 abbrev pub begun_on : Config → ReadAnchor → List Layer → Memory
-begun_on cfg a b = some (record { config = cfg; installed = some (new_generation a b []) })
+begun_on cfg a b = Some (record { config = cfg; installed = Some (new_generation a b []) })
 
 -- The base of a generation before it is sealed, folded at its number if that is due, and the fold's report.
 abbrev pub compacted : Config → Generation → Compaction

@@ -13,7 +13,7 @@ ghost use Rattle.seal.specs.Sealed.{installed_anchor, header_words, with_layer, 
 use model::bal_prefetch::BalSkip;
 use model::delta_snapshot::CompactionReport;
 use model::read_hub::Lineage;
-use model::storage_memo::{B256, BlockHash, ReadAnchor, U256};
+use model::storage_memo::{B256, ReadAnchor, U256};
 
 // The largest number of a block: it has no child.
 const LAST_NUMBER: u64 = 0xffff_ffff_ffff_ffff;
@@ -109,7 +109,7 @@ fn write_header(s: &[u8], work: &mut [u8], child: ReadAnchor)
     words::place(work, 0, &s[0..layout::INSTALLED_OFFSET]);
     let hash = child.hash;
     match hash {
-        BlockHash::Unknown => header::write_anchor(
+        None => header::write_anchor(
             work,
             child.number,
             0,
@@ -120,7 +120,7 @@ fn write_header(s: &[u8], work: &mut [u8], child: ReadAnchor)
                 w3: 0,
             },
         ),
-        BlockHash::Known(h) => header::write_anchor(work, child.number, 1, h),
+        Some(h) => header::write_anchor(work, child.number, 1, h),
     }
 }
 

@@ -1,8 +1,9 @@
 -- A write applied to the bytes of a store, and that it leaves a store. Assumes nothing.
+use Rattle.std.specs.Prelude.{None, Option, Some}
+use Rattle.std.proofs.lemmas.Option.{none-some, same_Some}
 use mathlib.Core.Path.{◌≡◌, refl, sym, ap, ap₂, subst, ◌∙◌}
 use mathlib.Core.Bool.{Bool, true, false, cond}
 use mathlib.Core.List.{List, ◌∷◌, ◌++◌}
-use mathlib.Core.Option.{Option, some, none, none-ne-some, some-injective}
 use Prim.Native.Nat.{ℕ}
 use lib.Dec.{leb}
 use lib.ListN.{length, drop}
@@ -26,7 +27,7 @@ use Rattle.image.proofs.RecordsOk.{top_ok_apply_write}
 use Rattle.image.proofs.Closure.{GenerationOk, generation_parts, generation_ok_parts, number_fits}
 use Rattle.image.proofs.ReadBack.{decode_some, length_image, decode_image}
 use Rattle.image.proofs.Lent.{generation_in, store_is, installed, generation_is}
-use Rattle.records.specs.declared.Found.{Found}
+use Rattle.records.specs.Records.{Found}
 use Rattle.records.specs.Records.{place_in, count_after}
 use Rattle.header.proofs.Images.{store_split}
 use Rattle.top.proofs.Tops.{count_set}
@@ -48,8 +49,8 @@ module _ (b : List ℕ) (s : Slot) (c : Content) (f : Found) (r : Bool) (p : f �
   pub settled_so : (after : List ℕ) → r ≡ true → after ≡ retopped (insert s c (generation_of b).top) b → Settled true after (insert s c (generation_of b).top) b
   settled_so after e h = record { room_is = sym e ∙ room_for; bytes_are = h }
 
-pub answer_done : (room : Bool) (k : WriteKind) → room ≡ true → some k ≡ cond room (some k) none
-answer_done room k e = sym (ap (λ (x : Bool). cond x (some k) none) e)
+pub answer_done : (room : Bool) (k : WriteKind) → room ≡ true → Some k ≡ cond room (Some k) None
+answer_done room k e = sym (ap (λ (x : Bool). cond x (Some k) None) e)
 
 -- A write of the kind w, as the code has it.
 module _ (b addresses : List ℕ) (s : Slot) (v : Value) (w : Kind) (e : kind_of w ≡ kind_in b addresses s) where
@@ -63,19 +64,19 @@ module _ (b addresses : List ℕ) (s : Slot) (v : Value) (w : Kind) (e : kind_of
   top_is : (t : Layer) → apply_write number (kind_of w) s v own ≡ t → top_after b addresses s v ≡ t
   top_is t p = ap (λ (k : WriteKind). apply_write number k s v own) (sym e) ∙ p
 
-  wrote : (r : Applied) (after : List ℕ) (t : Layer) (room : Bool) → apply_write number (kind_of w) s v own ≡ t → applied_kind r ≡ cond room (some (kind_of w)) none → Settled room after t b → Wrote r after b addresses s v
+  wrote : (r : Applied) (after : List ℕ) (t : Layer) (room : Bool) → apply_write number (kind_of w) s v own ≡ t → applied_kind r ≡ cond room (Some (kind_of w)) None → Settled room after t b → Wrote r after b addresses s v
   wrote r after t room p a h =
       let q : top_after b addresses s v ≡ t = top_is t p in
       let m : room ≡ has_room_for (top_after b addresses s v) b = h.room_is ∙ ap (λ (x : Layer). has_room_for x b) (sym q) in
       record {
-        answer_is = a ∙ ap₂ (λ (x : Bool) (k : WriteKind). cond x (some k) none) m e;
+        answer_is = a ∙ ap₂ (λ (x : Bool) (k : WriteKind). cond x (Some k) None) m e;
         bytes_are = h.bytes_are ∙ ap₂ (λ (x : Bool) (y : Layer). cond x (retopped y b) b) m (sym q);
       }
 
-  pub wrote_over : (r : Applied) (after : List ℕ) (u : ℕ) (room : Bool) → w ≡ Overwrite u → applied_kind r ≡ cond room (some (overwrite u)) none → Settled room after (insert s (valued u v) own) b → Wrote r after b addresses s v
-  wrote_over r after u room i a h = wrote r after (insert s (valued u v) own) room (ap (λ (x : Kind). apply_write number (kind_of x) s v own) i) (a ∙ ap (λ (x : Kind). cond room (some (kind_of x)) none) (sym i)) h
+  pub wrote_over : (r : Applied) (after : List ℕ) (u : ℕ) (room : Bool) → w ≡ Overwrite u → applied_kind r ≡ cond room (Some (overwrite u)) None → Settled room after (insert s (valued u v) own) b → Wrote r after b addresses s v
+  wrote_over r after u room i a h = wrote r after (insert s (valued u v) own) room (ap (λ (x : Kind). apply_write number (kind_of x) s v own) i) (a ∙ ap (λ (x : Kind). cond room (Some (kind_of x)) None) (sym i)) h
 
-  pub wrote_new : (r : Applied) (after : List ℕ) (n : ℕ) (room : Bool) → w ≡ New → n ≡ number → applied_kind r ≡ cond room (some (kind_of w)) none → Settled room after (insert s (valued n v) own) b → Wrote r after b addresses s v
+  pub wrote_new : (r : Applied) (after : List ℕ) (n : ℕ) (room : Bool) → w ≡ New → n ≡ number → applied_kind r ≡ cond room (Some (kind_of w)) None → Settled room after (insert s (valued n v) own) b → Wrote r after b addresses s v
   wrote_new r after n room i m a h =
       wrote r after (insert s (valued n v) own) room (ap (λ (x : Kind). apply_write number (kind_of x) s v own) i ∙ ap (λ (x : ℕ). insert s (valued x v) own) (sym m)) a h
 
@@ -83,7 +84,7 @@ module _ (b addresses : List ℕ) (s : Slot) (v : Value) (w : Kind) (e : kind_of
   pub wrote_none : Bytes b → Installed b → w ≡ Skip → Wrote (Done w) b b addresses s v
   wrote_none f h i =
       let few : true ≡ has_room_for own b = sym (le-leb _ _ (generation_in b h).facts.few_records) in
-      let same : b ≡ retopped own b = store_split b (store_of b) f h.is_store ∙ ap (λ (x : Option Generation). overlay (some (record { config = (store_of b).config; installed = x })) b) h.installs in
+      let same : b ≡ retopped own b = store_split b (store_of b) f h.is_store ∙ ap (λ (x : Option Generation). overlay (Some (record { config = (store_of b).config; installed = x })) b) h.installs in
       wrote (Done w) b own true (ap (λ (x : Kind). apply_write number (kind_of x) s v own) i) refl (record { room_is = few; bytes_are = same })
 
 -- What a write leaves is a store again: with the same configuration, and the same generation but for the top.
@@ -105,17 +106,17 @@ config_right : (b : List ℕ) → Installed b → config_ok (store_of b).config 
 unfolding well_formed
 config_right b h = and_left (config_ok (store_of b).config) _ (decode_some b (store_of b) h.is_store).right
 
-store_right : (cfg : Config) (g : Generation) → config_ok cfg ≡ true → generation_ok cfg g ≡ true → well_formed (record { config = cfg; installed = some g }) ≡ true
+store_right : (cfg : Config) (g : Generation) → config_ok cfg ≡ true → generation_ok cfg g ≡ true → well_formed (record { config = cfg; installed = Some g }) ≡ true
 unfolding well_formed
 store_right cfg g c d = and_intro (config_ok cfg) (generation_ok cfg g) c d
 
 -- The image of a well-formed store reads back.
-pub image_again : (b : List ℕ) (cfg : Config) (g : Generation) → config_ok cfg ≡ true → generation_ok cfg g ≡ true → Again (overlay (some (record { config = cfg; installed = some g })) b) b cfg g
+pub image_again : (b : List ℕ) (cfg : Config) (g : Generation) → config_ok cfg ≡ true → generation_ok cfg g ≡ true → Again (overlay (Some (record { config = cfg; installed = Some g })) b) b cfg g
 image_again b cfg g c d =
-    let st : Store = record { config = cfg; installed = some g } in
+    let st : Store = record { config = cfg; installed = Some g } in
     let after : List ℕ = image st ++ drop (length (image st)) b in
     let w : well_formed st ≡ true = store_right cfg g c d in
-    let e : decode after ≡ some st = decode_image st (drop (length (image st)) b) w in
+    let e : decode after ≡ Some st = decode_image st (drop (length (image st)) b) w in
     let n : length (image st) ≡ store_size cfg.capacity = length_image st w in
     record {
       installed_still = installed after st g e refl;
@@ -146,13 +147,13 @@ module _ (b addresses : List ℕ) (s : Slot) (v : Value) (h : Installed b) (slot
 
 -- By the answer of a write ----------------------------------------------------------------------------
 
-none_false : (x : Bool) (k : WriteKind) → none ≡ cond x (some k) none → x ≡ false
-none_false true k e = absurd (none-ne-some k e)
+none_false : (x : Bool) (k : WriteKind) → None ≡ cond x (Some k) None → x ≡ false
+none_false true k e = absurd (none-some k e)
 none_false false k e = refl
 
-some_true : (x : Bool) (j k : WriteKind) → some j ≡ cond x (some k) none → (x ≡ true) × (j ≡ k)
-some_true true j k e = (refl, some-injective j k e)
-some_true false j k e = absurd (none-ne-some j (sym e))
+some_true : (x : Bool) (j k : WriteKind) → Some j ≡ cond x (Some k) None → (x ≡ true) × (j ≡ k)
+some_true true j k e = (refl, same_Some j k e)
+some_true false j k e = absurd (none-some j (sym e))
 
 module _ (r : Applied) (after b addresses : List ℕ) (s : Slot) (v : Value) where
   pub wrote_full : Wrote r after b addresses s v → r ≡ Full → has_room_for (top_after b addresses s v) b ≡ false

@@ -1,20 +1,27 @@
 -- The order of addresses, the search among those that rise, and their buckets. Assumes nothing.
 use mathlib.Core.Path.{◌≡◌, refl, sym, ap, subst, ◌∙◌}
-use mathlib.Core.Bool.{Bool, true, false, ◌||◌}
+use mathlib.Core.Bool.{Bool, true, false, not, ◌||◌}
 use mathlib.Core.List.{List, [], ◌∷◌}
-use Prim.Native.Nat.{ℕ, zero, suc, ◌+◌, ◌/◌, ◌≤◌, ◌<◌}
+use Prim.Native.Nat.{ℕ, zero, suc, ◌+◌, ◌-◌, ◌*◌, ◌/◌, ◌≤◌, ◌<◌}
 use native.Mathlib.Numerals.{add-one}
 use native.Mathlib.Omega.{arith}
 use lib.Dec.{eqb, ltb}
-use lib.ListN.{length, drop, get_or, set}
-use lib.Seq.{get_or-set_same, get_or-set_other}
+use lib.ListN.{length, take, drop, get_or, set}
+use lib.Seq.{drop-drop, get_or-set_same, get_or-set_other}
 use borrow.Author.Tests.{eq-eqb, ne_eqb, eqb-true, eqb-false, le-ltb, ltb-true, ltb-false}
+use Rattle.std.specs.List.{list_all, range_with_len}
+use Rattle.std.specs.List.Sorted.{IsPartitionedBy, IsPartitionPoint}
+use Rattle.std.specs.Simd.{first_chunks}
+use Rattle.std.proofs.lemmas.Bool.{not-true}
+use Rattle.std.proofs.lemmas.List.FromFn.{length-range_with_len, get_or-range_with_len}
+use Rattle.std.proofs.lemmas.List.Sums.{AllPass-from_list_all}
 use Rattle.model.specs.declared.storage_memo.Address.{Address}
 use Rattle.model.specs.Slots.{address_words, words_ltb, address_eqb}
 use Rattle.model.specs.Advance.{relevant}
-use Rattle.model.specs.Entries.{addresses_of}
+use Rattle.model.specs.Entries.{address_of, addresses_of}
+use Rattle.entries.proofs.Numbers.{address_take}
 use Rattle.model.proofs.SlotLaws.{split, not_both, and_false, or_right, words_eqb_true, words_ltb_irrefl, words_ltb_total, words_ltb_trans}
-use Rattle.seed.specs.Rising.{address_ltb, address_in, Rise, bucket_of, Noted}
+use Rattle.seed.specs.Rising.{address_ltb, address_in, Rise, RiseIf, bucket_of, Noted}
 use Rattle.seed.proofs.Entries.{relevant_at, relevant_end}
 
 -- The order -------------------------------------------------------------------------------------------
@@ -129,15 +136,18 @@ note_more t b i m v l f e h j k =
 
 -- Addresses that rise ---------------------------------------------------------------------------------
 
--- The first i addresses of a list rise, with the one after them.
-abbrev pub RiseTo : ℕ → List ℕ → Type 0
-RiseTo i b = (k : ℕ) → k < i → address_ltb (address_in (suc k) b) (address_in k b) ≡ false
+-- Whether address i does not come before the one that it follows.
+abbrev pub follows : List ℕ → ℕ → Bool
+follows b i = not (address_ltb (address_in i b) (address_in (i - 1) b))
 
-pub rise_more : (i : ℕ) (b : List ℕ) → RiseTo i b → address_ltb (address_in (i + 1) b) (address_in i b) ≡ false → RiseTo (i + 1) b
-rise_more i b up e k h =
-    split (eqb k i)
-    (λ p. let q : k ≡ i = eqb-true k i p in rw q (rw add-one at e))
-    (λ p. up k (omega (arith, eqb-false k i p)))
+pub rise_all : (b : List ℕ) (r : Bool) → r ≡ list_all (follows b) (range_with_len 1 (length b / 20 - 1)) → RiseIf r b
+rise_all b r e t i h =
+    let n = length b / 20 - 1 in
+    let k : i < n = omega arith in
+    let at : get_or (range_with_len 1 n) i 0 ≡ suc i = get_or-range_with_len 1 n i 0 k ∙ omega arith in
+    let p : follows b (suc i) ≡ true = ap (follows b) (sym at) ∙ AllPass-from_list_all (follows b) (range_with_len 1 n) (sym e ∙ t) i 0 (omega (arith, length-range_with_len 1 n)) in
+    let back : suc i - 1 ≡ i = omega arith in
+    sym (ap (λ (k : ℕ). address_ltb (address_in (suc i) b) (address_in k b)) back) ∙ not-true _ p
 
 module _ (b : List ℕ) (up : Rise b) where
   rise_le : (j i : ℕ) → i ≤ j → j < length b / 20 → address_ltb (address_in j b) (address_in i b) ≡ false
@@ -148,22 +158,16 @@ module _ (b : List ℕ) (up : Rise b) where
       (λ p. not_after_trans (address_in i b) (address_in j b) (address_in (suc j) b) (rise_le j i (omega (arith, eqb-false i (suc j) p)) (omega arith)) (up j k))
 
   module _ (a : Address) where
-    -- Those before one that comes before a come before a; those after one that does not do not.
-    pub below_middle : (m : ℕ) → m < length b / 20 → address_ltb (address_in m b) a ≡ true → (j : ℕ) → j < m + 1 → address_ltb (address_in j b) a ≡ true
+    -- Those before one that comes before a come before a.
+    below_middle : (m : ℕ) → m < length b / 20 → address_ltb (address_in m b) a ≡ true → (j : ℕ) → j < m + 1 → address_ltb (address_in j b) a ≡ true
     below_middle m h p j k = not_after_less (address_in j b) (address_in m b) a (rise_le m j (omega arith) h) p
 
-    pub above_middle : (m : ℕ) → address_ltb (address_in m b) a ≡ false → (j : ℕ) → m ≤ j → j < length b / 20 → address_ltb (address_in j b) a ≡ false
-    above_middle m p j h k =
-        split (address_ltb (address_in j b) a)
-        (λ q. not_both (not_after_less (address_in m b) (address_in j b) a (rise_le j m h k) q) p)
-        (λ q. q)
-
     -- All come before a.
-    pub all_below : (i : ℕ) → i ≡ length b / 20 → ((j : ℕ) → j < i → address_ltb (address_in j b) a ≡ true) → false ≡ relevant (addresses_of b) a
+    all_below : (i : ℕ) → i ≡ length b / 20 → ((j : ℕ) → j < i → address_ltb (address_in j b) a ≡ true) → false ≡ relevant (addresses_of b) a
     all_below i e f = not_found b a (λ j h. less_differs (address_in j b) a (f j (omega arith)))
 
     -- Those before place i come before a, and that at place i does not: it decides.
-    pub decided : (i : ℕ) (r : Bool) → i < length b / 20 → ((j : ℕ) → j < i → address_ltb (address_in j b) a ≡ true) → address_ltb (address_in i b) a ≡ false
+    decided : (i : ℕ) (r : Bool) → i < length b / 20 → ((j : ℕ) → j < i → address_ltb (address_in j b) a ≡ true) → address_ltb (address_in i b) a ≡ false
         → r ≡ address_eqb (address_in i b) a → r ≡ relevant (addresses_of b) a
     decided i r h f g e =
         split (address_eqb (address_in i b) a)
@@ -175,3 +179,38 @@ module _ (b : List ℕ) (up : Rise b) where
             split (address_eqb (address_in j b) a)
             (λ q. not_both (total (address_in i b) a p (rw (address_eqb_true (address_in j b) a q) at (rise_le j i m k))) g)
             (λ q. q)
+
+-- The list as arrays, as a search by halves sees it -------------------------------------------------------
+
+chunk_get : (n j : ℕ) (b d : List ℕ) → j < n → get_or (first_chunks 20 n b) j d ≡ take 20 (drop (j * 20) b)
+chunk_get zero j b d h = absurd (omega arith)
+chunk_get (suc n) zero b d h = refl
+chunk_get (suc n) (suc j) b d h =
+    let e : 20 + j * 20 ≡ suc j * 20 = omega arith in
+    chunk_get n j (drop 20 b) d (omega arith) ∙ ap (take 20) (drop-drop (j * 20) 20 b ∙ ap (λ (i : ℕ). drop i b) e)
+
+module _ (b : List ℕ) (list : List (List ℕ)) (front : list ≡ first_chunks 20 (length b / 20) b) (size : length list ≡ length b / 20) where
+  address_got : (j : ℕ) (d : List ℕ) → j < length b / 20 → address_of (get_or list j d) ≡ address_in j b
+  address_got j d h = ap (λ (l : List (List ℕ)). address_of (get_or l j d)) front ∙ ap address_of (chunk_get (length b / 20) j b d h) ∙ address_take 20 (drop (j * 20) b) (omega arith)
+
+  module _ (a : Address) where
+    abbrev pub precedes : List ℕ → Bool
+    precedes m = address_ltb (address_of m) a
+
+    got : (j : ℕ) (d : List ℕ) (x : Bool) → j < length b / 20 → precedes (get_or list j d) ≡ x → address_ltb (address_in j b) a ≡ x
+    got j d x h e = sym (ap (λ (y : Address). address_ltb y a) (address_got j d h)) ∙ e
+
+    module _ (up : Rise b) where
+      pub partitioned : IsPartitionedBy precedes list
+      partitioned i j d h k e =
+          ap (λ (y : Address). address_ltb y a) (address_got i d (omega arith))
+          ∙ below_middle b up a j (omega arith) (got j d true (omega arith) e) i (omega arith)
+
+      module _ (i : ℕ) (at : IsPartitionPoint (λ y. precedes y ≡ true) (λ y. precedes y ≡ false) list i) where
+        pub point_end : length list ≤ i → i ≤ length list → false ≡ relevant (addresses_of b) a
+        point_end h k = all_below b up a i (omega arith) (λ j m. got j [] true (omega arith) (at.0 j [] (omega arith) m))
+
+        pub point_at : (r : Bool) (d : List ℕ) → i < length list → r ≡ address_eqb (address_of (get_or list i d)) a → r ≡ relevant (addresses_of b) a
+        point_at r d h e =
+            decided b up a i r (omega arith) (λ j m. got j [] true (omega arith) (at.0 j [] (omega arith) m)) (got i [] false (omega arith) (at.1 i [] (omega arith) h))
+            (e ∙ ap (λ (y : Address). address_eqb y a) (address_got i d (omega arith)))

@@ -1,8 +1,8 @@
 -- The writes of a list applied one after the other. Assumes nothing.
+use Rattle.std.specs.Prelude.{Option, Some, Err, Ok}
 use mathlib.Core.Path.{◌≡◌, refl, sym, ap, ap₂, subst, ◌∙◌}
 use mathlib.Core.Bool.{true, false}
 use mathlib.Core.List.{List, [], ◌∷◌, ◌++◌}
-use mathlib.Core.Option.{Option, some}
 use Prim.Native.Nat.{ℕ, suc, ◌+◌, ◌*◌, ◌/◌, ◌≤◌, ◌<◌}
 use native.Mathlib.Numerals.{add-one}
 use native.Mathlib.Omega.{arith}
@@ -27,8 +27,7 @@ use Rattle.image.specs.Lent.{store_of, generation_of, Installed}
 use Rattle.image.proofs.ReadBack.{decode_some, length_image}
 use Rattle.image.proofs.EntriesFit.{u256_at_fits, slot_of_fits}
 use Rattle.image.proofs.Lent.{generation_in}
-use Rattle.records.specs.declared.Found.{Found}
-use Rattle.records.specs.declared.Found.TheVariants.{At, Absent}
+use Rattle.records.specs.Records.{Found}
 use Rattle.records.specs.Records.{place_in, count_after}
 use Rattle.records.proofs.Places.{length_insert}
 use Rattle.header.proofs.Images.{store_split}
@@ -43,8 +42,8 @@ use Rattle.seed.proofs.Applying.{Again, wrote_full, wrote_done, wrote_again}
 -- A top grows -----------------------------------------------------------------------------------------
 
 least : (f : Found) (n : ℕ) → n ≤ count_after f n
-least (At i) n = omega arith
-least (Absent i) n = omega arith
+least (Ok i) n = omega arith
+least (Err i) n = omega arith
 
 insert_grows : (s : Slot) (c : Content) (l : Layer) → length l ≤ length (insert s c l)
 insert_grows s c l = omega (arith, length_insert l s c, least (place_in s l) (length l))
@@ -223,7 +222,7 @@ module _ (b addresses writes s : List ℕ) (c : WriteCounts) (i : ℕ) (along : 
       ap (seeded_in s relevance) (writes_end i writes h) ∙ seeded_nil st.config (generation_of s) relevance in
       let top : (generation_of s).top ≡ total.top = ap (λ (x : SeededTop). x.top) (sym z) ∙ along.top_is in
       let gen : generation_of s ≡ with_top (generation_of b) total.top = along.generation_is ∙ ap (with_top (generation_of b)) top in
-      let inst : st.installed ≡ some (with_top (generation_of b) total.top) = along.installed.installs ∙ ap some gen in
+      let inst : st.installed ≡ Some (with_top (generation_of b) total.top) = along.installed.installs ∙ ap Some gen in
       let size : length (image st) ≡ store_size (store_of b).config.capacity = length_image st (decode_some s st along.installed.is_store).right ∙ ap (λ (x : Config). store_size x.capacity) along.config_is in
       let a : length (seeded_in s relevance (drop i (writes_of writes))).applied_writes.applied ≡ 0 = ap (λ (x : SeededTop). length x.applied_writes.applied) z in
       let o : (seeded_in s relevance (drop i (writes_of writes))).applied_writes.overwritten ≡ 0 = ap (λ (x : SeededTop). x.applied_writes.overwritten) z in

@@ -1,6 +1,5 @@
 -- What a write does to a store's bytes, and what the answers mean.
-use Rattle.std.specs.Prelude.{◌≡◌, Bool, true, false, cond, List, ◌∷◌, ℕ, ◌+◌, leb, length}
-use Rattle.std.proofs.Math.Option.{Option, some, none}
+use Rattle.std.specs.Prelude.{◌≡◌, Bool, true, false, cond, List, ◌∷◌, ℕ, ◌+◌, leb, length, None, Option, Some}
 use Rattle.model.specs.declared.delta_snapshot.Slot.{Slot}
 use Rattle.model.specs.Slots.{Value}
 use Rattle.model.specs.Contents.{valued_use}
@@ -28,8 +27,8 @@ kind_of Skip = skip
 
 -- What a write did, or none where there was no room.
 abbrev pub applied_kind : Applied → Option WriteKind
-applied_kind Full = none
-applied_kind (Done k) = some (kind_of k)
+applied_kind Full = None
+applied_kind (Done k) = Some (kind_of k)
 
 -- The bytes of a store with another top of its generation, and whether its records are within the capacity.
 abbrev pub retopped : Layer → List ℕ → List ℕ
@@ -54,7 +53,7 @@ pub record Settled (room : Bool) (after : List ℕ) (t : Layer) (b : List ℕ) :
 
 -- A write was applied if there is room for it, else the bytes are as they were.
 pub record Wrote (r : Applied) (after b addresses : List ℕ) (s : Slot) (v : Value) : Type 0 where
-  pub answer_is : applied_kind r ≡ cond (has_room_for (top_after b addresses s v) b) (some (kind_in b addresses s)) none
+  pub answer_is : applied_kind r ≡ cond (has_room_for (top_after b addresses s v) b) (Some (kind_in b addresses s)) None
   pub bytes_are : after ≡ cond (has_room_for (top_after b addresses s v) b) (retopped (top_after b addresses s v) b) b
 
 -- The counts with one write more.

@@ -1,8 +1,7 @@
 // The writes of an advance, applied to the top of a store.
 #![tactic(auto)]
 
-ghost use Rattle.std.specs.Prelude.{◌≡◌, true, cond, ◌+◌, ◌*◌, ◌/◌, ◌^◌, ◌≤◌, ◌<◌, length, drop};
-ghost use Rattle.std.proofs.Math.Option.{some, none};
+ghost use Rattle.std.specs.Prelude.{◌≡◌, true, cond, ◌+◌, ◌*◌, ◌/◌, ◌^◌, ◌≤◌, ◌<◌, length, drop, None, Some};
 ghost use Rattle.model.specs.Contents.{valued_use};
 ghost use Rattle.model.specs.Layers.{find, freshest_use, insert};
 ghost use Rattle.model.specs.Advance.{relevant, unserved_kind, write_kind, final_write_kind};
@@ -12,8 +11,7 @@ ghost use Rattle.records.specs.Records.{place_in};
 ghost use Rattle.seed.specs.Rising.{address_ltb, Rise, RiseIf, bucket_of, Noted, Indexed};
 ghost use Rattle.seed.specs.Writes.{kind_of, applied_kind, Settled, Wrote, count_one, SeededAs};
 
-use layers::Use;
-use model::delta_snapshot::{Content, Held, Slot};
+use model::delta_snapshot::{Content, Slot};
 use model::storage_memo::{Address, U256};
 use records::Found;
 use replies::WriteCounts;
@@ -45,7 +43,7 @@ fn address_before(addresses: &[u8], at: usize, address: Address) -> bool
     requires { at + 20 ≤ length addresses.now }
     ensures { result ≡ address_ltb (address_of (drop at addresses.now)) address }
 {
-    let a = words::half(addresses, at) as u32;
+    let a = words::read_u32(addresses, at);
     if a != address.w0 {
         return a < address.w0;
     }
@@ -60,19 +58,10 @@ fn address_before(addresses: &[u8], at: usize, address: Address) -> bool
 fn rises(addresses: &[u8]) -> bool
     ensures { RiseIf result addresses.now }
 {
-    let n = addresses.len() / 20;
-    let mut i = 0;
-    while i + 1 < n {
-        if address_before(
-            addresses,
-            (i + 1) * 20,
-            entries::read_address(addresses, i * 20),
-        ) {
-            return false;
-        }
-        i += 1;
-    }
-    true
+    (1..addresses.len() / 20).all(|i| {
+        let previous = entries::read_address(addresses, (i - 1) * 20);
+        !address_before(addresses, i * 20, previous)
+    })
 }
 
 // Whether an address is on a list that rises, by halves.
@@ -80,36 +69,18 @@ fn relevant_rising(addresses: &[u8], address: Address) -> bool
     requires { Rise addresses.now }
     ensures { result ≡ relevant (addresses_of addresses.now) address }
 {
-    let n = addresses.len() / 20;
-    let mut lo = 0;
-    let mut hi = n;
-    while lo < hi {
-        let mid = lo + (hi - lo) / 2;
-        if address_before(addresses, mid * 20, address) {
-            lo = mid + 1;
-        } else {
-            hi = mid;
-        }
-    }
-    if lo == n {
-        return false;
-    }
-    entries::is_address(addresses, lo * 20, address)
+    let (list, _) = addresses.as_chunks::<20>();
+    let place = list.partition_point(|entry| address_before(entry, 0, address));
+    place < list.len() && entries::is_address(&list[place], 0, address)
 }
 
 // Whether an address is on the list.
 pub fn relevant(addresses: &[u8], address: Address) -> bool
     ensures { result ≡ relevant (addresses_of addresses.now) address }
 {
-    let n = addresses.len() / 20;
-    let mut i = 0;
-    while i < n {
-        if entries::is_address(addresses, i * 20, address) {
-            return true;
-        }
-        i += 1;
-    }
-    false
+    addresses
+        .chunks_exact(20)
+        .any(|entry| entries::is_address(entry, 0, address))
 }
 
 // The slot of write i.
@@ -151,12 +122,9 @@ fn note(addresses: &[u8], table: &mut [u16])
     requires { length table.old ≡ 65536 }
     ensures { Noted (length addresses.now / 20) table.new addresses.now }
 {
-    let n = addresses.len() / 20;
-    let mut i = 0;
-    while i < n {
+    for i in 0..addresses.len() / 20 {
         let b = bucket(entries::read_address(addresses, i * 20));
         table[b] = (i % 65535 + 1) as u16;
-        i += 1;
     }
 }
 
@@ -195,7 +163,7 @@ fn base_kind(s: &[u8], addresses: &[u8], table: &[u16], rise: bool, slot: Slot) 
     ensures { kind_of result ≡ write_kind (store_of s.now).config.retention (generation_of s.now).anchor.number (relevant (addresses_of addresses.now) slot.address) (freshest_use slot (generation_of s.now).base) }
 {
     let used = layers::freshest_use(s, layers::layers(s), slot);
-    let Use::At(u) = used else {
+    let Some(u) = used else {
         return unserved(addresses, table, rise, slot.address);
     };
     if layers::retention(s).serves(u, layers::installed_number(s)) {
@@ -217,8 +185,8 @@ fn kind(
     ensures { kind_of result ≡ final_write_kind (store_of s.now).config.retention (generation_of s.now).anchor.number (relevant (addresses_of addresses.now) slot.address) (valued_use (find slot (generation_of s.now).top)) (freshest_use slot (generation_of s.now).base) }
 {
     match layers::top_valued_use(s, place) {
-        Use::None => base_kind(s, addresses, table, rise, slot),
-        Use::At(u) => WriteKind::Overwrite(u),
+        None => base_kind(s, addresses, table, rise, slot),
+        Some(u) => WriteKind::Overwrite(u),
     }
 }
 
@@ -236,7 +204,7 @@ fn set_if_room(s: &mut [u8], place: Found, slot: Slot, c: Content) -> bool
 
 // The answer of a write, by whether there was room.
 fn answer(room: bool, what: WriteKind) -> Applied
-    ensures { applied_kind result ≡ cond room (some (kind_of what)) none }
+    ensures { applied_kind result ≡ cond room (Some (kind_of what)) None }
 {
     if room {
         Applied::Done(what)
@@ -263,7 +231,7 @@ fn apply(
         WriteKind::Overwrite(u) => {
             let c = Content {
                 used: u,
-                held: Held::Value(value),
+                held: Some(value),
             };
             let room = set_if_room(s, place, slot, c);
             answer(room, what)
@@ -271,7 +239,7 @@ fn apply(
         WriteKind::New => {
             let c = Content {
                 used: layers::installed_number(s),
-                held: Held::Value(value),
+                held: Some(value),
             };
             let room = set_if_room(s, place, slot, c);
             answer(room, what)
@@ -309,14 +277,12 @@ fn seed_by(s: &mut [u8], addresses: &[u8], table: &[u16], rise: bool, writes: &[
     requires { Installed s.old × Indexed rise table.now addresses.now }
     ensures { SeededAs result s.new s.old addresses.now writes.now }
 {
-    let n = writes.len() / 84;
     let mut counts = WriteCounts {
         applied: 0,
         overwritten: 0,
         skipped: 0,
     };
-    let mut i = 0;
-    while i < n {
+    for i in 0..writes.len() / 84 {
         let slot = write_slot_of(writes, i);
         let value = write_value_of(writes, i);
         let done = apply(s, addresses, table, rise, slot, value);
@@ -324,7 +290,6 @@ fn seed_by(s: &mut [u8], addresses: &[u8], table: &[u16], rise: bool, writes: &[
             return Seeded::Full;
         };
         counts = counted(counts, what);
-        i += 1;
     }
     Seeded::Done(counts)
 }

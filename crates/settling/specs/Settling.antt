@@ -1,12 +1,9 @@
 -- What an answer's values do to the top: the records that they add, and the bytes after them.
-use Rattle.std.specs.Prelude.{ℕ, ◌+◌, ◌≡◌, cond, List, [], ◌∷◌, eqb, get_or}
-use Rattle.std.proofs.Math.Option.{Option, some, none}
+use Rattle.std.specs.Prelude.{ℕ, ◌+◌, ◌≡◌, Bool, not, ◌&&◌, cond, List, [], ◌∷◌, None, Option, Some, is_some}
 use Rattle.model.specs.declared.delta_snapshot.Slot.{Slot}
 use Rattle.model.specs.Slots.{Value}
-use Rattle.model.specs.Contents.{is_some}
 use Rattle.model.specs.Layers.{Layer, find}
 use Rattle.model.specs.Reads.{Member}
-use Rattle.model.specs.Entries.{u256_at}
 use Rattle.model.specs.Store.{with_top}
 use Rattle.image.specs.Image.{overlay}
 use Rattle.image.specs.Lent.{store_of, generation_of, Installed as HasGeneration}
@@ -18,17 +15,17 @@ missing s l = cond (is_some (find s l)) 0 1
 
 -- The records that an outcome of a slot adds.
 abbrev pub adds : Option Value → Slot → Layer → ℕ
-adds none s l = 0
-adds (some v) s l = missing s l
+adds None s l = 0
+adds (Some v) s l = missing s l
 
 -- The records that the members of an answer to distinct slots add.
 unfoldable pub added : List Member → Layer → ℕ
 added [] l = 0
 added (m ∷ ms) l = adds m.outcome m.slot l + added ms l
 
--- The outcome in the member at a place of a lent answer.
-abbrev pub outcome_at : ℕ → List ℕ → Option Value
-outcome_at at l = cond (eqb (get_or l (at + 52) 0) 0) none (some (u256_at (at + 53) l))
+-- Whether a member adds a record.
+abbrev pub adds_one : Member → Layer → Bool
+adds_one m l = is_some m.outcome && not (is_some (find m.slot l))
 
 -- The bytes of a store with another top, which are one.
 pub record Settled (after before : List ℕ) (t : Layer) : Type 0 where

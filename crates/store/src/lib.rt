@@ -8,10 +8,11 @@ ghost use Rattle.image.specs.Image.{bytes_step};
 ghost use Rattle.replies.specs.Replies.{open_reply, install_reply, look_reply, put_reply, read_reply, answer_reply, alone, with_output, advance_call, answer_step, Stepped, Took, AdvancedAs};
 
 use model::delta_snapshot::{Retention, Slot};
+use model::refusal::Refusal;
 use model::storage_memo::{B256, ReadAnchor, U256};
 pub use replies::{
-    AdvanceReply, AnswerReply, DeltaReport, InstallReply, LookReply, OpenReply, PutReply,
-    ReadReply, TakeReply, WriteCounts,
+    AdvanceReply, AnswerReply, Answered, DeltaReport, InstallReply, Installed, LookReply,
+    OpenReply, PutReply, ReadOutcome, ReadReply, TakeReply, WriteCounts,
 };
 
 // Makes the bytes a store with nothing installed. Refused by 1, 2 and 9.
@@ -19,17 +20,17 @@ pub fn open(s: &mut [u8], capacity: u64, max_depth: u64, retention: Retention) -
     ensures { Stepped (open_reply result) s.new (bytes_step s.old (alone (open_store capacity max_depth retention))) }
 {
     if capacity == 0 {
-        return OpenReply::Refused(1);
+        return Err(Refusal::CapacityOutOfRange);
     }
     if 4096 < capacity {
-        return OpenReply::Refused(1);
+        return Err(Refusal::CapacityOutOfRange);
     }
     if 255 < max_depth {
-        return OpenReply::Refused(2);
+        return Err(Refusal::DepthOutOfRange);
     }
     let n = capacity as usize;
     if s.len() < layout::RECORDS_OFFSET + layout::RECORD_SIZE * n {
-        return OpenReply::Refused(9);
+        return Err(Refusal::LentTooShort);
     }
     unchecked_calls::open(s, capacity, max_depth, retention)
 }
@@ -39,7 +40,7 @@ pub fn install(s: &mut [u8], anchor: ReadAnchor) -> InstallReply
     ensures { Stepped (install_reply result) s.new (bytes_step s.old (alone (on_store (calls.install anchor)))) }
 {
     if !check_store::is_store(s) {
-        return InstallReply::Refused(20);
+        return Err(Refusal::NotAStore);
     }
     unchecked_calls::install(s, anchor)
 }
@@ -49,7 +50,7 @@ pub fn look(s: &[u8], anchor: ReadAnchor, slot: Slot) -> LookReply
     ensures { Stepped (look_reply result) s.now (bytes_step s.now (alone (on_store (at_anchor anchor (on_slot (calls.look slot)))))) }
 {
     if !check_store::is_store(s) {
-        return LookReply::Refused(20);
+        return Err(Refusal::NotAStore);
     }
     unchecked_calls::look(s, anchor, slot)
 }
@@ -59,7 +60,7 @@ pub fn get(s: &mut [u8], anchor: ReadAnchor, slot: Slot) -> LookReply
     ensures { Stepped (look_reply result) s.new (bytes_step s.old (alone (on_store (at_anchor anchor (on_slot (calls.get slot)))))) }
 {
     if !check_store::is_store(s) {
-        return LookReply::Refused(20);
+        return Err(Refusal::NotAStore);
     }
     unchecked_calls::get(s, anchor, slot)
 }
@@ -69,7 +70,7 @@ pub fn put(s: &mut [u8], anchor: ReadAnchor, slot: Slot, value: U256) -> PutRepl
     ensures { Stepped (put_reply result) s.new (bytes_step s.old (alone (on_store (at_anchor anchor (on_slot (calls.put slot value)))))) }
 {
     if !check_store::is_store(s) {
-        return PutReply::Refused(20);
+        return Err(Refusal::NotAStore);
     }
     unchecked_calls::put(s, anchor, slot, value)
 }
@@ -87,10 +88,19 @@ pub fn advance(
 ) -> AdvanceReply
     ensures { AdvancedAs result s.new out.new (bytes_step s.old (advance_call child parent_hash skip addresses.now writes.now work.old out.old)) out.old }
 {
-    if !check_store::is_store(s) {
-        return AdvanceReply::Refused(20);
+    if check_store::is_store(s) {
+        return unchecked_advance::advance(
+            s,
+            child,
+            parent_hash,
+            skip,
+            addresses,
+            writes,
+            work,
+            out,
+        );
     }
-    unchecked_advance::advance(s, child, parent_hash, skip, addresses, writes, work, out)
+    Err(Refusal::NotAStore)
 }
 
 // The value of a served slot, else the slot awaits an answer. Refused by 20, 21, 22, 25, 24 and 23.
@@ -98,7 +108,7 @@ pub fn read(s: &mut [u8], anchor: ReadAnchor, slot: Slot) -> ReadReply
     ensures { Stepped (read_reply result) s.new (bytes_step s.old (alone (on_store (at_anchor anchor (on_slot (calls.read slot)))))) }
 {
     if !check_store::is_store(s) {
-        return ReadReply::Refused(20);
+        return Err(Refusal::NotAStore);
     }
     unchecked_reads::read(s, anchor, slot)
 }
@@ -108,7 +118,7 @@ pub fn take(s: &mut [u8], anchor: ReadAnchor, out: &mut [u8]) -> TakeReply
     ensures { Took result s.new out.new out.old (bytes_step s.old (with_output (on_store (at_anchor anchor calls.take)) out.old)) }
 {
     if !check_store::is_store(s) {
-        return TakeReply::Refused(20);
+        return Err(Refusal::NotAStore);
     }
     unchecked_reads::take(s, anchor, out)
 }
@@ -118,10 +128,10 @@ pub fn answer(s: &mut [u8], anchor: ReadAnchor, members: &[u8]) -> AnswerReply
     ensures { Stepped (answer_reply result) s.new (answer_step s.old anchor members.now) }
 {
     if !awaiting::flags_known(members) {
-        return AnswerReply::Refused(3);
+        return Err(Refusal::UnknownForm);
     }
     if !check_store::is_store(s) {
-        return AnswerReply::Refused(20);
+        return Err(Refusal::NotAStore);
     }
     unchecked_reads::answer(s, anchor, members)
 }
@@ -131,7 +141,7 @@ pub fn answer_failed(s: &mut [u8], anchor: ReadAnchor, slots: &[u8]) -> AnswerRe
     ensures { Stepped (answer_reply result) s.new (bytes_step s.old (alone (on_store (at_anchor anchor (calls.answer_failed (slots_of slots.now)))))) }
 {
     if !check_store::is_store(s) {
-        return AnswerReply::Refused(20);
+        return Err(Refusal::NotAStore);
     }
     unchecked_reads::answer_failed(s, anchor, slots)
 }

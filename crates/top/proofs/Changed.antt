@@ -1,9 +1,9 @@
 -- How the bytes of a store change where its generation gets another top.
+use Rattle.std.specs.Prelude.{None, Option, Some}
 use Prim.Native.Nat.{ℕ, pred, ◌+◌, ◌-◌, ◌*◌, ◌≤◌}
 use mathlib.Core.Path.{◌≡◌, sym, ap, ap₂, subst, ◌∙◌}
 use mathlib.Core.Bool.{true}
 use mathlib.Core.List.{List, [], ◌∷◌, ◌++◌, append_assoc, append-nil}
-use mathlib.Core.Option.{Option, some}
 use native.Mathlib.Omega.{arith}
 use lib.ListN.{length, take, drop, replicate, length-append, length-replicate, replicate-append-replicate}
 use lib.Seq.{take_at, drop_at, drop-append-add}
@@ -93,7 +93,7 @@ regroup x n d k p c h t e a r = simp append_assoc
 
 -- All words of a store with a generation.
 words_split : (cfg : Config) (g : Generation) →
-    config_words cfg ++ installed_words cfg.capacity (some g)
+    config_words cfg ++ installed_words cfg.capacity (Some g)
     ≡ before_count cfg g ++ (record_count (chain g) ∷ (after_count g ++ (all_record_words (flat_records g.base) ++ (all_record_words g.top ++ replicate (record_width * cfg.capacity - record_width * record_count (chain g)) 0))))
 words_split cfg g =
     let e : List ℕ = padded ends_limit (layer_ends g.base) in
@@ -103,7 +103,7 @@ words_split cfg g =
 
 -- The bytes of a store with a generation, in segments, over what follows.
 bytes_split : (cfg : Config) (g : Generation) (rest : List ℕ) →
-    bytes_of (config_words cfg ++ installed_words cfg.capacity (some g)) ++ rest
+    bytes_of (config_words cfg ++ installed_words cfg.capacity (Some g)) ++ rest
     ≡ bytes_of (before_count cfg g) ++ (be 8 (record_count (chain g)) ++ (bytes_of (after_count g) ++ (bytes_of (all_record_words (flat_records g.base)) ++ (bytes_of (all_record_words g.top) ++ (replicate (record_size * (cfg.capacity - record_count (chain g))) 0 ++ rest)))))
 unfolding bytes_of
 bytes_split cfg g rest =
@@ -123,7 +123,7 @@ bytes_split cfg g rest =
     flat : (p q r s t u v : List ℕ) → (p ++ (q ++ (r ++ (s ++ (t ++ u))))) ++ v ≡ p ++ (q ++ (r ++ (s ++ (t ++ (u ++ v)))))
     flat p q r s t u v = simp append_assoc
 
-module _ (b : List ℕ) (st : Store) (g : Generation) (f : Bytes b) (e : decode b ≡ some st) (i : st.installed ≡ some g) where
+module _ (b : List ℕ) (st : Store) (g : Generation) (f : Bytes b) (e : decode b ≡ Some st) (i : st.installed ≡ Some g) where
   store_right : StoreFacts st
   store_right = store_facts st (decode_some b st e).right
 
@@ -165,7 +165,7 @@ module _ (b : List ℕ) (st : Store) (g : Generation) (f : Bytes b) (e : decode 
 
   -- The store with another top.
   abbrev with_new : Layer → Store
-  with_new t = record { config = st.config; installed = some (with_top g t) }
+  with_new t = record { config = st.config; installed = Some (with_top g t) }
 
   -- Its image takes as many bytes.
   length_topped : (t : Layer) → record_count (t ∷ g.base) ≤ st.config.capacity → length (image (with_new t)) ≡ store_size st.config.capacity
@@ -178,7 +178,7 @@ module _ (b : List ℕ) (st : Store) (g : Generation) (f : Bytes b) (e : decode 
       let o : List ℕ = bytes_of (all_record_words t) in
       let z : List ℕ = replicate (record_size * (st.config.capacity - record_count (t ∷ g.base))) 0 in
       let own : length o ≡ record_size * length t = length_bytes_of (all_record_words t) ∙ omega (arith, length_records t) in
-      let none : length (z ++ []) ≡ record_size * (st.config.capacity - record_count (t ∷ g.base)) = ap length (append-nil z) ∙ length-replicate {A = ℕ} _ 0 in
+      let None : length (z ++ []) ≡ record_size * (st.config.capacity - record_count (t ∷ g.base)) = ap length (append-nil z) ∙ length-replicate {A = ℕ} _ 0 in
       ap length (sym (append-nil (image (with_new t))) ∙ bytes_split st.config (with_top g t) [])
       ∙ length-append h (n ++ (m ++ (r ++ (o ++ (z ++ [])))))
       ∙ omega (arith, length-append n (m ++ (r ++ (o ++ (z ++ [])))), length-append m (r ++ (o ++ (z ++ []))), length-append r (o ++ (z ++ [])), length-append o (z ++ []), length_head, length_middle, length_base, length_be 8 (record_count (t ∷ g.base)))

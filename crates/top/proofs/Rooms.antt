@@ -1,4 +1,5 @@
 -- Whether there is room for a record.
+use Rattle.std.specs.Prelude.{Err, Ok}
 use Prim.Native.Nat.{ℕ, ◌+◌, ◌≤◌, ◌<◌}
 use mathlib.Core.Path.{◌≡◌, sym, ap, ap₂, ◌∙◌}
 use mathlib.Core.Bool.{Bool, true, false}
@@ -12,17 +13,16 @@ use Rattle.model.specs.Store.{chain}
 use Rattle.image.specs.Lent.{store_of, generation_of, Installed}
 use Rattle.image.proofs.Areas.{GenerationBytes, word}
 use Rattle.image.proofs.Lent.{store_in, generation_in}
-use Rattle.records.specs.declared.Found.{Found}
-use Rattle.records.specs.declared.Found.TheVariants.{At, Absent}
+use Rattle.records.specs.Records.{Found}
 use Rattle.records.specs.Records.{count_after}
 
 -- Room for the record at a place.
-pub room_at : (b : List ℕ) (f : Found) (i : ℕ) → Installed b → f ≡ At i → true ≡ leb (count_after f (record_count (chain (generation_of b)))) (store_of b).config.capacity
+pub room_at : (b : List ℕ) (f : Found) (i : ℕ) → Installed b → f ≡ Ok i → true ≡ leb (count_after f (record_count (chain (generation_of b)))) (store_of b).config.capacity
 room_at b f i h e =
     let k : GenerationBytes b (store_of b) (generation_of b) = generation_in b h in
     sym (ap (λ (x : Found). leb (count_after x (record_count (chain (generation_of b)))) (store_of b).config.capacity) e ∙ le-leb _ _ k.facts.few_records)
 
-pub room_absent : (b : List ℕ) (f : Found) (i x y : ℕ) → Installed b → f ≡ Absent i → x ≡ word records_count_offset b → y ≡ word capacity_offset b → leb (x + 1) y ≡ leb (count_after f (record_count (chain (generation_of b)))) (store_of b).config.capacity
+pub room_absent : (b : List ℕ) (f : Found) (i x y : ℕ) → Installed b → f ≡ Err i → x ≡ word records_count_offset b → y ≡ word capacity_offset b → leb (x + 1) y ≡ leb (count_after f (record_count (chain (generation_of b)))) (store_of b).config.capacity
 room_absent b f i x y h e p q =
     let c : ℕ = record_count (chain (generation_of b)) in
     let n : ℕ = (store_of b).config.capacity in

@@ -1,4 +1,5 @@
 -- The part of the bytes from the top on, lent and returned.
+use Rattle.std.specs.Prelude.{Err, Ok}
 use Prim.Native.Nat.{ℕ, ◌+◌, ◌-◌, ◌*◌, ◌≤◌}
 use mathlib.Core.Path.{◌≡◌, refl, sym, ap, ap₂, ◌∙◌}
 use mathlib.Core.List.{List, ◌∷◌, ◌++◌, append-nil}
@@ -18,8 +19,7 @@ use Rattle.image.specs.Image.{overlay}
 use Rattle.image.specs.Area.{records_of, with_records}
 use Rattle.image.specs.Lent.{store_of, generation_of, Installed}
 use Rattle.image.proofs.Lent.{store_in, generation_in}
-use Rattle.records.specs.declared.Found.{Found}
-use Rattle.records.specs.declared.Found.TheVariants.{At, Absent}
+use Rattle.records.specs.Records.{Found}
 use Rattle.records.specs.Records.{place_in, count_after, Ready, Holds}
 use Rattle.records.proofs.Places.{length_insert}
 use Rattle.layers.proofs.Search.{lent, lent_rest}
@@ -34,12 +34,12 @@ lent_back a s ys =
 
 -- A record set at a place adds to the records of several layers as it does to those of one.
 count_more : (f : Found) (n m : ℕ) → count_after f n + m ≡ count_after f (n + m)
-count_more (At i) n m = refl
-count_more (Absent i) n m = omega arith
+count_more (Ok i) n m = refl
+count_more (Err i) n m = omega arith
 
 count_least : (f : Found) (n : ℕ) → n ≤ count_after f n
-count_least (At i) n = omega arith
-count_least (Absent i) n = omega arith
+count_least (Ok i) n = omega arith
+count_least (Err i) n = omega arith
 
 -- The number of all records after a record of the top is set.
 pub count_set : (g : Generation) (s : Slot) (c : Content) (f : Found) → f ≡ place_in s g.top → record_count (insert s c g.top ∷ g.base) ≡ count_after f (record_count (chain g))

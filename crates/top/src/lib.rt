@@ -9,7 +9,7 @@ ghost use Rattle.image.specs.Lent.{store_of, generation_of, Installed};
 ghost use Rattle.records.specs.Records.{count_after};
 ghost use Rattle.top.specs.Top.{topped, Placed};
 
-use model::delta_snapshot::{Content, Held, Slot};
+use model::delta_snapshot::{Content, Slot};
 use model::storage_memo::U256;
 use records::Found;
 
@@ -19,8 +19,8 @@ pub fn has_room(s: &[u8], place: Found) -> bool
     ensures { result ≡ leb (count_after place (record_count (chain (generation_of s.now)))) (store_of s.now).config.capacity }
 {
     match place {
-        Found::At(_) => true,
-        Found::Absent(_) => words::read_u64(s, layout::RECORDS_COUNT_OFFSET) + 1
+        Ok(_) => true,
+        Err(_) => words::read_u64(s, layout::RECORDS_COUNT_OFFSET) + 1
             <= words::read_u64(s, layout::CAPACITY_OFFSET),
     }
 }
@@ -57,7 +57,7 @@ pub fn settle_top(s: &mut [u8], place: Found, slot: Slot, value: U256)
 {
     let c = Content {
         used: layers::installed_number(s),
-        held: Held::Value(value),
+        held: Some(value),
     };
     set_top(s, place, slot, c);
 }

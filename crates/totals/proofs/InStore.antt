@@ -1,15 +1,13 @@
 -- The totals of a store's generation, in the bytes of its image.
+use Rattle.std.specs.Prelude.{None, Option, Some}
 use Prim.Native.Nat.{ℕ, pred, ◌*◌}
 use mathlib.Core.Path.{◌≡◌, refl, sym, ap, ◌∙◌}
 use mathlib.Core.List.{List, [], ◌∷◌, ◌++◌, append_assoc}
-use mathlib.Core.Option.{some}
 use native.Mathlib.Omega.{arith}
 use lib.ListN.{length, drop}
 use lib.Seq.{drop_at}
 use Rattle.layout.specs.Layout.{magic, totals_index, totals_offset}
-use Rattle.model.specs.declared.storage_memo.BlockHash.{BlockHash}
 use Rattle.model.specs.declared.delta_snapshot.Retention.{Retention}
-use Rattle.model.specs.declared.storage_memo.BlockHash.TheVariants.{Unknown, Known}
 use Rattle.model.specs.declared.delta_snapshot.Retention.TheVariants.{Unbounded, IdleBlocks}
 use Rattle.model.specs.declared.read_hub.ReadTotals.{ReadTotals}
 use Rattle.model.specs.Layers.{record_count}
@@ -20,27 +18,28 @@ use Rattle.image.proofs.Words.{length_bytes_of}
 use Rattle.image.proofs.ReadBack.{Begins}
 use Rattle.totals.specs.Totals.{totals_of, with_totals}
 use Rattle.totals.proofs.Places.{totals_of_words, placed_over, bytes_of_append}
+use Rattle.model.specs.declared.storage_memo.U256.{U256}
 
 -- The words before the totals, and those after them.
-abbrev before : ℕ → ℕ → Retention → ℕ → BlockHash → ℕ → ℕ → ℕ → List ℕ
+abbrev before : ℕ → ℕ → Retention → ℕ → Option U256 → ℕ → ℕ → ℕ → List ℕ
 before c d R n k x y z = (magic ∷ c ∷ d ∷ retention_words R) ++ (1 ∷ n ∷ (hash_words k ++ (x ∷ y ∷ z ∷ [])))
 
-length_words_before : (c d : ℕ) (R : Retention) (n : ℕ) (k : BlockHash) (x y z : ℕ) → length (before c d R n k x y z) ≡ totals_index
-length_words_before c d Unbounded n Unknown x y z = refl
-length_words_before c d Unbounded n (Known h) x y z = refl
-length_words_before c d (IdleBlocks i) n Unknown x y z = refl
-length_words_before c d (IdleBlocks i) n (Known h) x y z = refl
+length_words_before : (c d : ℕ) (R : Retention) (n : ℕ) (k : Option U256) (x y z : ℕ) → length (before c d R n k x y z) ≡ totals_index
+length_words_before c d Unbounded n None x y z = refl
+length_words_before c d Unbounded n (Some h) x y z = refl
+length_words_before c d (IdleBlocks i) n None x y z = refl
+length_words_before c d (IdleBlocks i) n (Some h) x y z = refl
 
-apart : (c d : ℕ) (R : Retention) (n : ℕ) (k : BlockHash) (x y z : ℕ) (ts rest : List ℕ)
+apart : (c d : ℕ) (R : Retention) (n : ℕ) (k : Option U256) (x y z : ℕ) (ts rest : List ℕ)
     → (magic ∷ c ∷ d ∷ retention_words R) ++ ((1 ∷ n ∷ (hash_words k ++ (x ∷ y ∷ z ∷ ts))) ++ rest) ≡ before c d R n k x y z ++ (ts ++ rest)
-apart c d Unbounded n Unknown x y z ts rest = refl
-apart c d Unbounded n (Known h) x y z ts rest = refl
-apart c d (IdleBlocks i) n Unknown x y z ts rest = refl
-apart c d (IdleBlocks i) n (Known h) x y z ts rest = refl
+apart c d Unbounded n None x y z ts rest = refl
+apart c d Unbounded n (Some h) x y z ts rest = refl
+apart c d (IdleBlocks i) n None x y z ts rest = refl
+apart c d (IdleBlocks i) n (Some h) x y z ts rest = refl
 
 -- A store with a generation that has the given totals.
 abbrev pub store_with : Config → Generation → ReadTotals → Store
-store_with cfg g t = record { config = cfg; installed = some (record { anchor = g.anchor; base = g.base; top = g.top; pending = g.pending; totals = t }) }
+store_with cfg g t = record { config = cfg; installed = Some (record { anchor = g.anchor; base = g.base; top = g.top; pending = g.pending; totals = t }) }
 
 module _ (cfg : Config) (g : Generation) where
   abbrev head : List ℕ

@@ -5,15 +5,16 @@ use mathlib.Core.List.{List, [], ◌∷◌, ◌++◌, append_assoc, append-nil}
 use native.Mathlib.Omega.{arith}
 use lib.ListN.{length, take, drop, get_or, length-append, take-append-drop}
 use lib.Dec.{lit<, lit≤}
-use lib.Seq.{drop-drop, drop_at, take_at, get_or-drop, length-take-le}
-use Rattle.layout.specs.Layout.{accepted_offset, coalesced_offset, ends_offset, errors_offset, header_width, members_offset, refused_offset, rounds_offset, served_offset, totals_index, totals_offset, totals_width, valued_offset, waiting_offset}
+use native.Mathlib.Numerals.{add-one}
+use lib.Seq.{take-suc, drop-drop, drop_at, take_at, get_or-drop, length-take-le}
+use Rattle.layout.specs.Layout.{accepted_offset, coalesced_offset, errors_offset, header_width, members_offset, refused_offset, rounds_offset, served_offset, totals_index, totals_offset, totals_width, valued_offset, waiting_offset}
 use Rattle.model.specs.Numbers.{be, num}
 use Rattle.model.specs.declared.read_hub.ReadTotals.{ReadTotals}
 use Rattle.model.proofs.NumberLaws.{length_be}
-use Rattle.image.specs.Image.{bytes_of, words_of, totals_words, read_totals}
+use Rattle.image.specs.Image.{bytes_of, words_of, read_totals}
 use Rattle.image.proofs.Words.{length_bytes_of}
 use Rattle.words.specs.Parts.{part, placed}
-use Rattle.totals.specs.Totals.{totals_of, with_totals}
+use Rattle.totals.specs.Totals.{totals_of}
 
 -- A word of bytes.
 word_at : (n i : ℕ) (s : List ℕ) → i < n → get_or (words_of n s) i 0 ≡ num (part (8 * i) 8 s)
@@ -102,31 +103,17 @@ bytes_of_snoc : (ws : List ℕ) (x : ℕ) → bytes_of (ws ++ (x ∷ [])) ≡ by
 unfolding bytes_of
 bytes_of_snoc ws x = bytes_of_append ws (x ∷ []) ∙ ap (λ (l : List ℕ). bytes_of ws ++ l) (append-nil (be 8 x))
 
-placed_none : (at : ℕ) (s : List ℕ) → s ≡ placed at (bytes_of []) s
+pub placed_none : (at : ℕ) (s : List ℕ) → s ≡ placed at (bytes_of []) s
 unfolding bytes_of
 placed_none at s =
     let e : at + 0 ≡ at = omega arith in
     sym (ap₂ (λ (x : List ℕ) (k : ℕ). x ++ drop k s) (append-nil (take at s)) e ∙ take-append-drop at s)
 
--- A word written after some words.
-word_placed : (ws : List ℕ) (at x : ℕ) (s a b : List ℕ) → at + 8 * length ws + 8 ≤ length s → a ≡ placed at (bytes_of ws) s → b ≡ placed (at + 8 * length ws) (be 8 x) a → b ≡ placed at (bytes_of (ws ++ (x ∷ []))) s
-word_placed ws at x s a b h p q =
-    let to = at + 8 * length ws in
-    let e : at + length (bytes_of ws) ≡ to = omega (arith, length_bytes_of ws) in
-    q ∙ ap (placed to (be 8 x)) p ∙ placed_next at to (bytes_of ws) (be 8 x) s e (omega (arith, length_be 8 x)) ∙ ap (λ (l : List ℕ). placed at l s) (sym (bytes_of_snoc ws x))
-
--- The nine words of the totals, written one after the other.
-pub words_placed : (t : ReadTotals) (s s1 s2 s3 s4 s5 s6 s7 s8 s9 : List ℕ) → ends_offset ≤ length s
-    → s1 ≡ placed accepted_offset (be 8 t.accepted) s → s2 ≡ placed served_offset (be 8 t.served) s1 → s3 ≡ placed waiting_offset (be 8 t.waiting) s2 → s4 ≡ placed valued_offset (be 8 t.valued) s3 → s5 ≡ placed refused_offset (be 8 t.refused) s4 → s6 ≡ placed rounds_offset (be 8 t.rounds) s5 → s7 ≡ placed members_offset (be 8 t.members) s6 → s8 ≡ placed errors_offset (be 8 t.errors) s7 → s9 ≡ placed coalesced_offset (be 8 t.coalesced) s8
-    → s9 ≡ with_totals t s
-words_placed t s s1 s2 s3 s4 s5 s6 s7 s8 s9 h p1 p2 p3 p4 p5 p6 p7 p8 p9 =
-    let ws : List ℕ = totals_words t in
-    let e1 : s1 ≡ placed totals_offset (bytes_of (take 1 ws)) s = word_placed (take 0 ws) totals_offset t.accepted s s s1 (omega arith) (placed_none totals_offset s) p1 in
-    let e2 : s2 ≡ placed totals_offset (bytes_of (take 2 ws)) s = word_placed (take 1 ws) totals_offset t.served s s1 s2 (omega arith) e1 p2 in
-    let e3 : s3 ≡ placed totals_offset (bytes_of (take 3 ws)) s = word_placed (take 2 ws) totals_offset t.waiting s s2 s3 (omega arith) e2 p3 in
-    let e4 : s4 ≡ placed totals_offset (bytes_of (take 4 ws)) s = word_placed (take 3 ws) totals_offset t.valued s s3 s4 (omega arith) e3 p4 in
-    let e5 : s5 ≡ placed totals_offset (bytes_of (take 5 ws)) s = word_placed (take 4 ws) totals_offset t.refused s s4 s5 (omega arith) e4 p5 in
-    let e6 : s6 ≡ placed totals_offset (bytes_of (take 6 ws)) s = word_placed (take 5 ws) totals_offset t.rounds s s5 s6 (omega arith) e5 p6 in
-    let e7 : s7 ≡ placed totals_offset (bytes_of (take 7 ws)) s = word_placed (take 6 ws) totals_offset t.members s s6 s7 (omega arith) e6 p7 in
-    let e8 : s8 ≡ placed totals_offset (bytes_of (take 8 ws)) s = word_placed (take 7 ws) totals_offset t.errors s s7 s8 (omega arith) e7 p8 in
-    word_placed (take 8 ws) totals_offset t.coalesced s s8 s9 (omega arith) e8 p9
+-- A word written after those before it.
+pub word_placed : (ws : List ℕ) (at i : ℕ) (s a b : List ℕ) → i < length ws → at + 8 * length ws ≤ length s → a ≡ placed at (bytes_of (take i ws)) s → b ≡ placed (at + 8 * i) (be 8 (get_or ws i 0)) a → b ≡ placed at (bytes_of (take (i + 1) ws)) s
+word_placed ws at i s a b l h p q =
+    let n : length (take i ws) ≡ i = length-take-le i ws (omega arith) in
+    let e : at + length (bytes_of (take i ws)) ≡ at + 8 * i = omega (arith, length_bytes_of (take i ws)) in
+    let t : take (i + 1) ws ≡ take i ws ++ (get_or ws i 0 ∷ []) = rw add-one (take-suc ws i 0 l) in
+    q ∙ ap (placed (at + 8 * i) (be 8 (get_or ws i 0))) p ∙ placed_next at (at + 8 * i) (bytes_of (take i ws)) (be 8 (get_or ws i 0)) s e (omega (arith, length_be 8 (get_or ws i 0)))
+    ∙ ap (λ (x : List ℕ). placed at x s) (sym (ap bytes_of t ∙ bytes_of_snoc (take i ws) (get_or ws i 0)))

@@ -1,71 +1,14 @@
-// The running totals of a generation's reads: counted by value, lent to a read and to an answer, and kept in a store's bytes.
+// The running totals of a generation's reads: lent to a read and to an answer, which count themselves, and kept in a store's bytes.
 #![tactic(auto)]
 
 ghost use Rattle.std.specs.Prelude.{◌≡◌, ◌≤◌, length};
 ghost use Rattle.layout.specs.Layout.{ends_offset};
-ghost use Rattle.model.specs.Reads.{count_served, count_waiting, count_answer};
+ghost use Rattle.model.specs.Reads.{count_answer};
 ghost use Rattle.totals.specs.Totals.{Small, Answerable, count_read, totals_of, with_totals};
 
 use model::read_hub::ReadTotals;
 
-// The totals after a served read.
-pub fn served(mut t: ReadTotals) -> ReadTotals
-    requires { Small t }
-    ensures { result ≡ count_served t }
-{
-    t.accepted += 1;
-    t.served += 1;
-    t
-}
-
-// The totals after a read that waits; `joined` says whether its slot was awaiting already.
-pub fn waiting(mut t: ReadTotals, joined: bool) -> ReadTotals
-    requires { Small t }
-    ensures { result ≡ count_waiting joined t }
-{
-    t.accepted += 1;
-    t.waiting += 1;
-    if joined {
-        t.coalesced += 1;
-    }
-    t
-}
-
-// The totals after a read.
-pub fn read(t: ReadTotals, is_served: bool, joined: bool) -> ReadTotals
-    requires { Small t }
-    ensures { result ≡ count_read is_served joined t }
-{
-    if is_served {
-        served(t)
-    } else {
-        waiting(t, joined)
-    }
-}
-
-// The totals after an answer: of its slots, its refused slots, and the waiters that it wakes with a value and refused.
-pub fn answered(
-    mut t: ReadTotals,
-    members: u64,
-    errors: u64,
-    valued: u64,
-    refused: u64,
-) -> ReadTotals
-    requires { Answerable members errors valued refused t }
-    ensures { result ≡ count_answer members errors valued refused t }
-{
-    t.waiting -= valued + refused;
-    t.valued += valued;
-    t.refused += refused;
-    t.members += members;
-    t.errors += errors;
-    if members != 0 {
-        t.rounds += 1;
-    }
-    t
-}
-
-// The totals of a store.
+// The totals of a store. They are read one by one: through an array each would be named twice.
 pub fn read_totals(s: &[u8]) -> ReadTotals
     requires { ends_offset ≤ length s.now }
     ensures { result ≡ totals_of s.now }
@@ -88,31 +31,47 @@ pub fn write_totals(s: &mut [u8], t: ReadTotals)
     requires { ends_offset ≤ length s.old }
     ensures { s.new ≡ with_totals t s.old }
 {
-    words::write_u64(s, layout::ACCEPTED_OFFSET, t.accepted);
-    words::write_u64(s, layout::SERVED_OFFSET, t.served);
-    words::write_u64(s, layout::WAITING_OFFSET, t.waiting);
-    words::write_u64(s, layout::VALUED_OFFSET, t.valued);
-    words::write_u64(s, layout::REFUSED_OFFSET, t.refused);
-    words::write_u64(s, layout::ROUNDS_OFFSET, t.rounds);
-    words::write_u64(s, layout::MEMBERS_OFFSET, t.members);
-    words::write_u64(s, layout::ERRORS_OFFSET, t.errors);
-    words::write_u64(s, layout::COALESCED_OFFSET, t.coalesced);
+    let all = [
+        t.accepted,
+        t.served,
+        t.waiting,
+        t.valued,
+        t.refused,
+        t.rounds,
+        t.members,
+        t.errors,
+        t.coalesced,
+    ];
+    for (i, x) in all.iter().enumerate() {
+        words::write_u64(s, layout::ACCEPTED_OFFSET + 8 * i, *x);
+    }
 }
 
-// A read counts itself in the totals that it is lent.
+// A read counts itself in the totals that it is lent; `joined` says whether the slot of one that waits was awaiting already.
 pub fn count_read(t: &mut ReadTotals, is_served: bool, joined: bool)
     requires { Small t.old }
     ensures { t.new ≡ count_read is_served joined t.old }
 {
-    *t = read(*t, is_served, joined);
+    t.accepted += 1;
+    if is_served {
+        t.served += 1;
+    } else {
+        t.waiting += 1;
+        t.coalesced += u64::from(joined);
+    }
 }
 
-// An answer counts itself in the totals that it is lent.
+// An answer counts itself in the totals that it is lent: its slots, its refused slots, and the waiters that it wakes with a value and refused.
 pub fn count_answer(t: &mut ReadTotals, members: u64, errors: u64, valued: u64, refused: u64)
     requires { Answerable members errors valued refused t.old }
     ensures { t.new ≡ count_answer members errors valued refused t.old }
 {
-    *t = answered(*t, members, errors, valued, refused);
+    t.waiting -= valued + refused;
+    t.valued += valued;
+    t.refused += refused;
+    t.members += members;
+    t.errors += errors;
+    t.rounds += u64::from(members != 0);
 }
 
 // A read counts itself in a store.

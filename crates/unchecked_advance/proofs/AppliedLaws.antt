@@ -1,9 +1,9 @@
 -- The applied writes of a list are those whose slot has a record in the top that the list leaves. Assumes nothing.
+use Rattle.std.specs.Prelude.{None, Option, Some, is_some}
 use Prim.Native.Nat.{ℕ}
 use mathlib.Core.Path.{◌≡◌, refl, sym, ap, ◌∙◌}
 use mathlib.Core.Bool.{Bool, true, false, cond, true≢false}
 use mathlib.Core.List.{List, [], ◌∷◌}
-use mathlib.Core.Option.{Option, some, none}
 use native.Mathlib.Omega.{arith}
 use lib.ListN.{length}
 use Rattle.model.specs.declared.delta_snapshot.Slot.{Slot}
@@ -11,7 +11,7 @@ use Rattle.model.specs.declared.delta_snapshot.Retention.{Retention}
 use Rattle.model.specs.declared.storage_memo.Address.{Address}
 use Rattle.model.specs.Slots.{Value, LastUse, slot_eqb}
 use Rattle.model.specs.declared.delta_snapshot.Content.{Content}
-use Rattle.model.specs.Contents.{valued, is_some, use_of, has_value, valued_use}
+use Rattle.model.specs.Contents.{valued, use_of, has_value, valued_use}
 use Rattle.model.specs.Layers.{Layer, find, insert, freshest_use}
 use Rattle.model.specs.Advance.{Write, WriteKind, overwrite, new, skip, relevant, write_kind, final_write_kind, apply_write, count_write, SeededTop, seed_final_writes}
 use Rattle.model.specs.Entries.{slots_bytes, with_slots}
@@ -21,8 +21,8 @@ use Rattle.unchecked_advance.specs.Outputs.{applied_in}
 
 -- No record without a value.
 abbrev plain : Option Content → Bool
-plain none = true
-plain (some c) = has_value c
+plain None = true
+plain (Some c) = has_value c
 
 abbrev is_skip : WriteKind → Bool
 is_skip (overwrite u) = false
@@ -55,11 +55,11 @@ plain_write n skip t v l h s = h s
 
 -- What a skipped write says of its slot's record.
 module _ (R : Retention) (n : ℕ) (j : Bool) (f : Option LastUse) where
-  skipped_none : (o : Option Content) → plain o ≡ true → final_write_kind R n j (valued_use o) f ≡ skip → o ≡ none
-  skipped_none none p e = refl
-  skipped_none (some c) p e = let q : overwrite (use_of c) ≡ skip = rw p at e in absurd (true≢false (sym (ap is_skip q)))
+  skipped_none : (o : Option Content) → plain o ≡ true → final_write_kind R n j (valued_use o) f ≡ skip → o ≡ None
+  skipped_none None p e = refl
+  skipped_none (Some c) p e = let q : overwrite (use_of c) ≡ skip = rw p at e in absurd (true≢false (sym (ap is_skip q)))
 
-  skipped_kind : (o : Option Content) → o ≡ none → final_write_kind R n j (valued_use o) f ≡ write_kind R n j f
+  skipped_kind : (o : Option Content) → o ≡ None → final_write_kind R n j (valued_use o) f ≡ write_kind R n j f
   skipped_kind o e = ap (λ (x : Option Content). final_write_kind R n j (valued_use x) f) e
 
 module _ (R : Retention) (n : ℕ) (relevance : List Address) (b : List Layer) where
@@ -82,7 +82,7 @@ module _ (R : Retention) (n : ℕ) (relevance : List Address) (b : List Layer) w
       found_stays ws s (apply_write n k w.slot w.value l) (found_write n k s w.slot w.value l h)
 
   -- A slot of a skipped write gets no record.
-  none_then : (s t : Slot) (v : Value) (l : Layer) → first_kind s ≡ skip → find s l ≡ none → find s (apply_write n (kind_on l t) t v l) ≡ none
+  none_then : (s t : Slot) (v : Value) (l : Layer) → first_kind s ≡ skip → find s l ≡ None → find s (apply_write n (kind_on l t) t v l) ≡ None
   none_then s t v l e h =
       split (slot_eqb t s)
       (λ y.
@@ -92,7 +92,7 @@ module _ (R : Retention) (n : ℕ) (relevance : List Address) (b : List Layer) w
       ap (λ (k : WriteKind). find s (apply_write n k t v l)) r ∙ h)
       (λ y. other_write n (kind_on l t) s t v l y ∙ h)
 
-  none_stays : (ws : List Write) (s : Slot) (l : Layer) → first_kind s ≡ skip → find s l ≡ none → find s (run ws l).top ≡ none
+  none_stays : (ws : List Write) (s : Slot) (l : Layer) → first_kind s ≡ skip → find s l ≡ None → find s (run ws l).top ≡ None
   unfolding seed_final_writes
   none_stays [] s l e h = h
   none_stays (w ∷ ws) s l e h = none_stays ws s (apply_write n (kind_on l w.slot) w.slot w.value l) e (none_then s w.slot w.value l e h)
@@ -104,7 +104,7 @@ module _ (R : Retention) (n : ℕ) (relevance : List Address) (b : List Layer) w
   one ws s v l (overwrite u) e p = rw (found_stays ws s (insert s (valued u v) l) (found_own s (valued u v) l))
   one ws s v l new e p = rw (found_stays ws s (insert s (valued n v) l) (found_own s (valued n v) l))
   one ws s v l skip e p =
-      let q : find s l ≡ none = skipped_none R n (relevant relevance s.address) (freshest_use s b) (find s l) p e in
+      let q : find s l ≡ None = skipped_none R n (relevant relevance s.address) (freshest_use s b) (find s l) p e in
       let f : first_kind s ≡ skip = sym (skipped_kind R n (relevant relevance s.address) (freshest_use s b) (find s l) q) ∙ e in
       rw (none_stays ws s l f q)
 

@@ -1,4 +1,5 @@
 -- The kinds of an advance: current, cold and carried. Assumes nothing.
+use Rattle.std.specs.Prelude.{Ok}
 use Prim.Native.Nat.{ℕ, suc}
 use mathlib.Core.Path.{◌≡◌, refl, sym, ap, ap₂, subst, ◌∙◌}
 use mathlib.Core.Bool.{true}
@@ -22,15 +23,14 @@ use Rattle.model.specs.declared.delta_snapshot.CompactionReport.{CompactionRepor
 use Rattle.seal.specs.Sealed.{begun_on, compacted, Sealed}
 use Rattle.seal.proofs.Decoded.{Begun, cold_begun, carried_begun}
 use Rattle.seed.specs.Writes.{seeded_over}
-use Rattle.replies.specs.declared.AdvanceReply.{AdvanceReply}
-use Rattle.replies.specs.declared.AdvanceReply.TheVariants.{Advanced}
+use Rattle.replies.specs.Replies.{AdvanceReply}
 use Rattle.replies.specs.Replies.{advance_reply, AdvancedAs}
 use Rattle.replies.specs.Replies.{lent_prepared}
 use Rattle.unchecked_advance.specs.Inner.{CountedAs, ended, writing, Ready}
 
 -- The installed anchor's.
 pub current_is : (b : List ℕ) (c : Counts) → CountedAs c (store_of b).config.retention (generation_of b)
-    → (out : List ℕ) → advance_reply (Advanced (record { outcome = AlreadyCurrent; writes = record { applied = 0; overwritten = 0; skipped = 0 }; held = c.held; live = c.live; compaction = record { merged = 0; left = 0; dropped = 0 } })) out
+    → (out : List ℕ) → advance_reply (Ok (record { outcome = AlreadyCurrent; writes = record { applied = 0; overwritten = 0; skipped = 0 }; held = c.held; live = c.live; compaction = record { merged = 0; left = 0; dropped = 0 } })) out
     ≡ ok (already_current (store_of b).config (generation_of b))
 unfolding chunks
 current_is b c k out = λ i. ok (advanced (record { outcome = AlreadyCurrent; writes = no_writes; held = k.held_is i; live = k.live_is i; compaction = no_compaction }))

@@ -1,11 +1,15 @@
 -- What each test of an advance says of the table: refused by 6, 7 or 9, or by none of them. Assumes nothing.
+use Rattle.model.specs.declared.refusal.Refusal.TheVariants.{SkipWithWrites, SkipOutOfRange, LentTooShort}
+use Rattle.model.specs.declared.refusal.Refusal.{Refusal}
+use Rattle.model.specs.Refusals.{refusal_number}
+use Rattle.std.specs.Prelude.{Err}
+use Rattle.std.specs.Prelude.{None, Some}
 use Prim.Native.Nat.{ℕ, zero, suc, ◌+◌, ◌*◌, ◌/◌, ◌≤◌, ◌<◌}
 use native.Mathlib.Nat.{div-add-mod'}
 use mathlib.Core.Path.{◌≡◌, refl, sym, ap, subst, ◌∙◌}
 use mathlib.Core.Logic.{◌⊎◌, ⊎_elim}
 use mathlib.Core.Bool.{Bool, true, false, not, ◌&&◌, ◌||◌, cond}
 use mathlib.Core.List.{List, map}
-use mathlib.Core.Option.{some, none}
 use native.Mathlib.Omega.{arith}
 use lib.Dec.{eqb, ltb}
 use lib.ListN.{length, drop}
@@ -22,8 +26,7 @@ use Rattle.words.specs.Parts.{part}
 use Rattle.image.specs.Image.{BytesResult, bytes_step}
 use Rattle.image.specs.Lent.{store_of, IsStore}
 use Rattle.image.proofs.Lent.{store_in}
-use Rattle.replies.specs.declared.AdvanceReply.{AdvanceReply}
-use Rattle.replies.specs.declared.AdvanceReply.TheVariants.{Refused}
+use Rattle.replies.specs.Replies.{AdvanceReply}
 use Rattle.replies.specs.Replies.{advance_call, AdvancedAs}
 use Rattle.replies.specs.Replies.{lent_prepared}
 use Rattle.unchecked_advance.specs.Inner.{too_many, ended}
@@ -69,20 +72,20 @@ module _ (s : List ℕ) (child : ReadAnchor) (h : U256) (k : ℕ) (addresses wri
   nine = ltb (length work) (store_size capacity) || ltb (length out / 52) (length (writes_of writes))
 
   -- What the table's answer gives.
-  refused_by : (n : ℕ) → cond six (some 6) (cond (ltb 3 k) (some 7) (cond nine (some 9) (cond (too_many (store_of s).config does) (some 23) none))) ≡ some n → answers (Refused n) s out
+  refused_by : (n : Refusal) → cond six (Some 6) (cond (ltb 3 k) (Some 7) (cond nine (Some 9) (cond (too_many (store_of s).config does) (Some 23) None))) ≡ Some (refusal_number n) → answers (Err n) s out
   refused_by n q =
-      subst (λ (o : BytesResult). AdvancedAs (Refused n) s out o out)
-      (sym (step_refused (store_of s).config (store_of s).installed child h (lent_prepared k addresses writes) s (length work) (length out / 52) e n q))
+      subst (λ (o : BytesResult). AdvancedAs (Err n) s out o out)
+      (sym (step_refused (store_of s).config (store_of s).installed child h (lent_prepared k addresses writes) s (length work) (length out / 52) e (refusal_number n) q))
       (record { answer_is = refl; bytes_is = refl; output_is = refl })
 
-  pub refused_6 : (k ≡ 0 → ⊥) → (length writes / 84 ≡ 0 → ⊥) → answers (Refused 6) s out
-  refused_6 a b = refused_by 6 (rw (ne_eqb k 0 a, lt-ltb 0 (length (writes_of writes)) (omega (arith, writes_count writes))))
+  pub refused_6 : (k ≡ 0 → ⊥) → (length writes / 84 ≡ 0 → ⊥) → answers (Err SkipWithWrites) s out
+  refused_6 a b = refused_by SkipWithWrites (rw (ne_eqb k 0 a, lt-ltb 0 (length (writes_of writes)) (omega (arith, writes_count writes))))
 
   no_six : length writes / 84 ≡ 0 → six ≡ false
   no_six z = ap (λ (b : Bool). not (eqb k 0) && b) (le-ltb 0 (length (writes_of writes)) (omega (arith, writes_count writes))) ∙ and_false (not (eqb k 0))
 
-  pub refused_7 : length writes / 84 ≡ 0 → 3 < k → answers (Refused 7) s out
-  refused_7 z a = refused_by 7 (rw (no_six z, lt-ltb 3 k a))
+  pub refused_7 : length writes / 84 ≡ 0 → 3 < k → answers (Err SkipOutOfRange) s out
+  refused_7 z a = refused_by SkipOutOfRange (rw (no_six z, lt-ltb 3 k a))
 
   module _ (skips : Skips k writes) where
     not_six : six ≡ false
@@ -91,13 +94,13 @@ module _ (s : List ℕ) (child : ReadAnchor) (h : U256) (k : ℕ) (addresses wri
     not_seven : ltb 3 k ≡ false
     not_seven = le-ltb 3 k (⊎_elim (λ z. omega arith) (λ z. z.1) skips)
 
-    refused_9 : nine ≡ true → answers (Refused 9) s out
-    refused_9 z = refused_by 9 (rw (not_six, not_seven, z))
+    refused_9 : nine ≡ true → answers (Err LentTooShort) s out
+    refused_9 z = refused_by LentTooShort (rw (not_six, not_seven, z))
 
-    pub refused_9_work : (cap : ℕ) → cap ≡ num (part capacity_offset 8 s) → length work < records_offset + record_size * cap → answers (Refused 9) s out
+    pub refused_9_work : (cap : ℕ) → cap ≡ num (part capacity_offset 8 s) → length work < records_offset + record_size * cap → answers (Err LentTooShort) s out
     refused_9_work cap q z = refused_9 (or_left _ _ (lt-ltb (length work) (store_size capacity) (omega (arith, (store_in s e).capacity_word))))
 
-    pub refused_9_output : length out / 52 < length writes / 84 → answers (Refused 9) s out
+    pub refused_9_output : length out / 52 < length writes / 84 → answers (Err LentTooShort) s out
     refused_9_output z = refused_9 (or_right (ltb (length work) (store_size capacity)) _ (lt-ltb (length out / 52) (length (writes_of writes)) (omega (arith, writes_count writes))))
 
     -- Refused by none of them.

@@ -1,9 +1,11 @@
 -- The end of an advance: the writes over the store begun in the work area, which becomes the store. Assumes nothing.
+use Rattle.model.specs.declared.refusal.Refusal.TheVariants.{OverCapacity}
+use Rattle.std.specs.Prelude.{Ok, Err}
+use Rattle.std.specs.Prelude.{Option, Some}
 use Prim.Native.Nat.{ℕ, ◌+◌, ◌*◌, ◌≤◌, ◌<◌}
 use mathlib.Core.Path.{◌≡◌, refl, sym, ap, ap₂, subst, ◌∙◌}
 use mathlib.Core.Bool.{Bool, true, false, cond}
 use mathlib.Core.List.{List, ◌∷◌, ◌++◌}
-use mathlib.Core.Option.{Option, some}
 use native.Mathlib.Omega.{arith}
 use lib.Dec.{ltb}
 use lib.ListN.{length, take, drop}
@@ -29,7 +31,6 @@ use Rattle.replies.specs.declared.WriteCounts.{WriteCounts}
 use Rattle.seed.specs.declared.Seeded.{Seeded}
 use Rattle.seed.specs.declared.Seeded.TheVariants.{Full as NoRoom, Done as Counted}
 use Rattle.seed.specs.Writes.{has_room_for, seeded_in, SeededTo, SeededAs}
-use Rattle.replies.specs.declared.AdvanceReply.TheVariants.{Refused, Advanced}
 use Rattle.unchecked_advance.specs.Outputs.{applied_in}
 use Rattle.replies.specs.Replies.{AdvancedAs}
 use Rattle.unchecked_advance.specs.Inner.{CountedAs, CountsBefore, ended, writing, Ready}
@@ -69,34 +70,34 @@ module _ (s w addresses writes out : List ℕ) (outcome : CarryOutcome) (c : Com
   capacity_is = ap (λ (x : Config). x.capacity) h.config_is
 
   abbrev ended_by : Bool → BytesResult
-  ended_by x = cond x (record { bytes = s; answer = refuse 23 }) (record { bytes = overlay (some (record { config = cfg; installed = p.installed })) s; answer = ok p.report })
+  ended_by x = cond x (record { bytes = s; answer = refuse 23 }) (record { bytes = overlay (Some (record { config = cfg; installed = p.installed })) s; answer = ok p.report })
 
-  pub finish_full : has_room_for z.top w ≡ false → AdvancedAs (Refused 23) s out (ended cfg p s) out
+  pub finish_full : has_room_for z.top w ≡ false → AdvancedAs (Err OverCapacity) s out (ended cfg p s) out
   finish_full e =
       let more : (store_of w).config.capacity < record_count (z.top ∷ base) = leb-false _ _ e in
       let over : ltb cfg.capacity (record_count (z.top ∷ base)) ≡ true = lt-ltb cfg.capacity (record_count (z.top ∷ base)) (omega (arith, capacity_is)) in
-      subst (λ (o : BytesResult). AdvancedAs (Refused 23) s out o out) (sym (ap ended_by over)) (record { answer_is = refl; bytes_is = refl; output_is = refl })
+      subst (λ (o : BytesResult). AdvancedAs (Err OverCapacity) s out o out) (sym (ap ended_by over)) (record { answer_is = refl; bytes_is = refl; output_is = refl })
 
   module _ (w' : List ℕ) (counts : WriteCounts) (f : Bytes w') (t : SeededTo counts w' w z) where
     abbrev new_one : Generation
     new_one = new_generation (generation_of w).anchor base z.top
 
     abbrev made : Store
-    made = record { config = cfg; installed = some new_one }
+    made = record { config = cfg; installed = Some new_one }
 
     new_is : generation_of w' ≡ new_one
     new_is = t.generation_is ∙ ap (λ (g : Generation). with_top g z.top) h.generation_is
 
     made_is : store_of w' ≡ made
-    made_is = ap₂ (λ (x : Config) (o : Option Generation). record { config = x; installed = o }) (t.config_is ∙ h.config_is) (t.installed.installs ∙ ap some new_is)
+    made_is = ap₂ (λ (x : Config) (o : Option Generation). record { config = x; installed = o }) (t.config_is ∙ h.config_is) (t.installed.installs ∙ ap Some new_is)
 
-    decodes : decode w' ≡ some made
-    decodes = t.installed.is_store ∙ ap some made_is
+    decodes : decode w' ≡ Some made
+    decodes = t.installed.is_store ∙ ap Some made_is
 
     size : length (image made) ≡ records_offset + record_size * cfg.capacity
     size = omega (arith, length_image made (decode_some w' made decodes).right)
 
-    copied : (cap : ℕ) (s' : List ℕ) → cap ≡ num (part capacity_offset 8 s) → s' ≡ placed 0 (take (records_offset + record_size * cap) w') s → s' ≡ overlay (some made) s
+    copied : (cap : ℕ) (s' : List ℕ) → cap ≡ num (part capacity_offset 8 s) → s' ≡ placed 0 (take (records_offset + record_size * cap) w') s → s' ≡ overlay (Some made) s
     copied cap s' e q =
         let n : records_offset + record_size * cap ≡ length (image made) = omega (arith, size, (store_in s h.is_store).capacity_word) in
         let i : take (records_offset + record_size * cap) w' ≡ image made = ap (λ (k : ℕ). take k w') n ∙ (image_reads_back.is_image w' made f decodes).1 in
@@ -130,7 +131,7 @@ module _ (s w addresses writes out : List ℕ) (outcome : CarryOutcome) (c : Com
 
     pub finish_done : (cap : ℕ) (s' out' : List ℕ) (cc : Counts) → Bytes writes → cap ≡ num (part capacity_offset 8 s) → s' ≡ placed 0 (take (records_offset + record_size * cap) w') s → out' ≡ with_slots (applied_in (generation_of w').top (writes_of writes)) out
         → CountedAs cc (store_of w').config.retention (generation_of w')
-        → AdvancedAs (Advanced (record { outcome = outcome; writes = counts; held = cc.held; live = cc.live; compaction = c })) s' out' (ended cfg p s) out
+        → AdvancedAs (Ok (record { outcome = outcome; writes = counts; held = cc.held; live = cc.live; compaction = c })) s' out' (ended cfg p s) out
     finish_done cap s' out' cc fw e q o k =
         let held : cc.held ≡ held_count (z.top ∷ base) = k.held_is ∙ ap (λ (g : Generation). held_count (chain g)) new_is in
         let live : cc.live ≡ live_count (store_of w).config.retention (generation_of w).anchor.number (z.top ∷ base) =
@@ -140,7 +141,7 @@ module _ (s w addresses writes out : List ℕ) (outcome : CarryOutcome) (c : Com
         let ss : first_slots counts.applied out' ≡ z.applied_writes.applied = ap₂ first_slots t.counts_are.applied_is puts ∙ slots_back out fit in
         let over = t.counts_are.overwritten_is in
         let left = t.counts_are.skipped_is in
-        subst (λ (x : BytesResult). AdvancedAs (Advanced (record { outcome = outcome; writes = counts; held = cc.held; live = cc.live; compaction = c })) s' out' x out) (sym (ap ended_by room))
+        subst (λ (x : BytesResult). AdvancedAs (Ok (record { outcome = outcome; writes = counts; held = cc.held; live = cc.live; compaction = c })) s' out' x out) (sym (ap ended_by room))
         (record {
           answer_is = λ i. ok (advanced (record { outcome = outcome; writes = record { applied = ss i; overwritten = over i; skipped = left i }; held = held i; live = live i; compaction = c }));
           bytes_is = copied cap s' e q;

@@ -1,6 +1,7 @@
 -- The output of an advance, half way: the slots that are still to be put, at their place. Assumes nothing.
+use Rattle.std.specs.Prelude.{is_some, Err, Ok}
 use Prim.Native.Nat.{ℕ, zero, suc, ◌+◌, ◌*◌, ◌/◌, ◌≤◌, ◌<◌}
-use mathlib.Core.Path.{◌≡◌, sym, ap, ap₂, subst, ◌∙◌}
+use mathlib.Core.Path.{◌≡◌, sym, ap, ap₂, ◌∙◌}
 use mathlib.Core.Bool.{Bool, true, false, cond}
 use mathlib.Core.List.{List, [], ◌∷◌, ◌++◌, map, append_assoc, append-nil}
 use native.Mathlib.Numerals.{add-one}
@@ -10,25 +11,23 @@ use lib.Seq.{take-add, drop-drop, take_at, drop_at, length-take-le}
 use Rattle.model.specs.declared.delta_snapshot.Slot.{Slot}
 use Rattle.model.specs.Numbers.{be, Bytes}
 use Rattle.model.specs.Layers.{Layer, find}
-use Rattle.model.specs.Contents.{is_some}
 use Rattle.model.specs.Entries.{number_at, slot_of, write_of, chunks, writes_of, slot_bytes, slots_bytes, with_slots}
 use Rattle.model.proofs.NumberLaws.{be_num}
 use Rattle.model.proofs.EntryLaws.{bytes_drop, bytes_take, SlotFits, slot_of_fits, length_slot, Each, each_none, each_more}
-use Rattle.model.proofs.SlotLaws.{split}
 use Rattle.words.specs.Parts.{part, placed}
+use Rattle.words.proofs.Places.{entry_fits}
 use Rattle.image.specs.WellFormed.{rising}
-use Rattle.records.specs.declared.Found.{Found}
-use Rattle.records.specs.declared.Found.TheVariants.{At, Absent}
+use Rattle.records.specs.Records.{Found}
 use Rattle.records.specs.Records.{place_in}
 use Rattle.records.proofs.Places.{found_content, absent_none}
 use Rattle.seed.proofs.Entries.{write_at, writes_end}
-use Rattle.unchecked_advance.specs.Outputs.{PutOne, applied_in}
+use Rattle.unchecked_advance.specs.Outputs.{applied_in}
 
 -- By the place that the search found.
-pub found_at : (l : Layer) (t : Slot) (f : Found) (i : ℕ) → f ≡ place_in t l → f ≡ At i → true ≡ is_some (find t l)
+pub found_at : (l : Layer) (t : Slot) (f : Found) (i : ℕ) → f ≡ place_in t l → f ≡ Ok i → true ≡ is_some (find t l)
 found_at l t f i p q = sym (ap is_some (found_content l t i (sym p ∙ q)))
 
-pub found_none : (l : Layer) (t : Slot) (f : Found) (i : ℕ) → rising l ≡ true → f ≡ place_in t l → f ≡ Absent i → false ≡ is_some (find t l)
+pub found_none : (l : Layer) (t : Slot) (f : Found) (i : ℕ) → rising l ≡ true → f ≡ place_in t l → f ≡ Err i → false ≡ is_some (find t l)
 found_none l t f i r p q = sym (ap is_some (absent_none l t i r (sym p ∙ q)))
 
 -- A slot's bytes ----------------------------------------------------------------------------------------
@@ -105,76 +104,43 @@ pub record Putting (t : Layer) (writes before out : List ℕ) (k i : ℕ) : Type
 pub putting_start : (t : Layer) (writes out : List ℕ) → Putting t writes out out 0 0
 putting_start t writes out = record { output_is = put_start (applied_in t (writes_of writes)) out; count_is = omega arith; few = omega arith }
 
-module _ (t : Layer) (writes before out : List ℕ) (k i : ℕ) (h : Putting t writes before out k i) where
+-- Past the last write.
+pub putting_end : {t : Layer} {writes before out : List ℕ} {k i : ℕ} → Putting t writes before out k i → length writes / 84 ≤ i
+    → (out ≡ with_slots (applied_in t (writes_of writes)) before) × (k ≡ length (applied_in t (writes_of writes)))
+unfolding applied_in
+putting_end {t} {writes} {before} {out} {k} {i} h g =
+    let e : applied_in t (drop i (writes_of writes)) ≡ [] = ap (applied_in t) (writes_end i writes g) in
+    (sym (put_end k (applied_in t (drop i (writes_of writes))) out e) ∙ h.output_is, omega (arith, ap length e, h.count_is))
+
+-- Write i, by its slot u, and by r, whether the top has a record of it.
+module _ {t : Layer} {writes before out : List ℕ} {k i : ℕ} (h : Putting t writes before out k i) (g : i < length writes / 84) {u : Slot} {r : Bool} (p : u ≡ slot_of (drop (i * 84) writes)) (q : r ≡ is_some (find u t)) where
   abbrev slot_here : Slot
   slot_here = slot_of (drop (i * 84) writes)
 
   abbrev rest : List Slot
   rest = applied_in t (drop (i + 1) (writes_of writes))
 
-  here_is : (x : Bool) → i < length writes / 84 → is_some (find slot_here t) ≡ x → applied_in t (drop i (writes_of writes)) ≡ cond x (slot_here ∷ rest) rest
+  here_is : (x : Bool) → r ≡ x → applied_in t (drop i (writes_of writes)) ≡ cond x (slot_here ∷ rest) rest
   unfolding applied_in
-  here_is x g e =
+  here_is x e =
       ap (applied_in t) (write_at i writes g)
-      ∙ ap₂ (λ (y : Bool) (j : ℕ). cond y (slot_here ∷ applied_in t (drop j (writes_of writes))) (applied_in t (drop j (writes_of writes)))) e (sym (add-one i))
+      ∙ ap₂ (λ (y : Bool) (j : ℕ). cond y (slot_here ∷ applied_in t (drop j (writes_of writes))) (applied_in t (drop j (writes_of writes)))) (ap (λ (y : Slot). is_some (find y t)) (sym p) ∙ sym q ∙ e) (sym (add-one i))
 
-  putting_skip : i < length writes / 84 → is_some (find slot_here t) ≡ false → Putting t writes before out k (i + 1)
-  putting_skip g e =
-      let n : applied_in t (drop i (writes_of writes)) ≡ rest = here_is false g e in
-      record {
-        output_is = sym (ap (λ (ss : List Slot). put_at k ss out) n) ∙ h.output_is;
-        count_is = sym (ap (λ (ss : List Slot). k + length ss) n) ∙ h.count_is;
-        few = omega (arith, h.few);
-      }
+  pub putting_skip : r ≡ false → Putting t writes before out k (i + 1)
+  putting_skip e = record {
+    output_is = sym (ap (λ (ss : List Slot). put_at k ss out) (here_is false e)) ∙ h.output_is;
+    count_is = sym (ap (λ (ss : List Slot). k + length ss) (here_is false e)) ∙ h.count_is;
+    few = omega (arith, h.few);
+  }
 
-  putting_next : i < length writes / 84 → i * 84 + 84 ≤ length writes → k * 52 + 52 ≤ length out → Bytes writes → is_some (find slot_here t) ≡ true
-      → Putting t writes before (placed (k * 52) (part (i * 84) 52 writes) out) (k + 1) (i + 1)
-  putting_next g fits room f e =
-      let n : applied_in t (drop i (writes_of writes)) ≡ slot_here ∷ rest = here_is true g e in
-      let c : k + suc (length rest) ≡ length (applied_in t (writes_of writes)) = sym (ap (λ (ss : List Slot). k + length ss) n) ∙ h.count_is in
+  pub putting_next : {n : ℕ} {after : List ℕ} → length writes / 84 * 52 ≤ length out → Bytes writes → r ≡ true → n ≡ 52 → after ≡ placed (k * 52) (part (i * 84) n writes) out → Putting t writes before after (k + 1) (i + 1)
+  putting_next room f e m o =
+      let n = here_is true e in
+      let fits = entry_fits 84 i (length writes) g in
       record {
         output_is =
-            ap (λ (x : List ℕ). put_at (k + 1) rest (placed (k * 52) x out)) (slot_at (i * 84) writes f (omega arith)) ∙ put_next k slot_here rest out room
-            ∙ sym (ap (λ (ss : List Slot). put_at k ss out) n) ∙ h.output_is;
-        count_is = omega (arith, c);
+            ap (put_at (k + 1) rest) (o ∙ ap (λ (j : ℕ). placed (k * 52) (part (i * 84) j writes) out) m ∙ ap (λ (x : List ℕ). placed (k * 52) x out) (slot_at (i * 84) writes f (omega (arith, fits))))
+            ∙ put_next k slot_here rest out (omega (arith, h.few, room)) ∙ sym (ap (λ (ss : List Slot). put_at k ss out) n) ∙ h.output_is;
+        count_is = omega (arith, ap length n, h.count_is);
         few = omega (arith, h.few);
       }
-
-  pub putting_one : (r : ℕ) (after : List ℕ) → i < length writes / 84 → i * 84 + 84 ≤ length writes → k * 52 + 52 ≤ length out → Bytes writes → PutOne r after t writes i out k
-      → Putting t writes before after r (i + 1)
-  putting_one r after g fits room f p =
-      split (is_some (find slot_here t))
-      (λ e.
-      let n : r ≡ k + 1 = p.next_is ∙ ap (λ (x : Bool). cond x (k + 1) k) e in
-      let o : after ≡ placed (k * 52) (part (i * 84) 52 writes) out = p.output_is ∙ ap (λ (x : Bool). cond x (placed (k * 52) (part (i * 84) 52 writes) out) out) e in
-      subst (λ (x : ℕ). Putting t writes before after x (i + 1)) (sym n) (subst (λ (x : List ℕ). Putting t writes before x (k + 1) (i + 1)) (sym o) (putting_next g fits room f e)))
-      (λ e.
-      let n : r ≡ k = p.next_is ∙ ap (λ (x : Bool). cond x (k + 1) k) e in
-      let o : after ≡ out = p.output_is ∙ ap (λ (x : Bool). cond x (placed (k * 52) (part (i * 84) 52 writes) out) out) e in
-      subst (λ (x : ℕ). Putting t writes before after x (i + 1)) (sym n) (subst (λ (x : List ℕ). Putting t writes before x k (i + 1)) (sym o) (putting_skip g e)))
-
-  nothing : length writes / 84 ≤ i → applied_in t (drop i (writes_of writes)) ≡ []
-  unfolding applied_in
-  nothing g = ap (applied_in t) (writes_end i writes g)
-
-  pub putting_end : length writes / 84 ≤ i → (out ≡ with_slots (applied_in t (writes_of writes)) before) × (k ≡ length (applied_in t (writes_of writes)))
-  putting_end g =
-      let z : length (applied_in t (drop i (writes_of writes))) ≡ 0 = ap length (nothing g) in
-      (sym (put_end k (applied_in t (drop i (writes_of writes))) out (nothing g)) ∙ h.output_is, omega (arith, h.count_is))
-
--- One write -----------------------------------------------------------------------------------------------
-
--- By the code's slot u and answer r.
-module _ (t : Layer) (writes out : List ℕ) (i k : ℕ) (u : Slot) (r : Bool) (p : u ≡ slot_of (drop (i * 84) writes)) (q : r ≡ is_some (find u t)) where
-  found_is : r ≡ is_some (find (slot_of (drop (i * 84) writes)) t)
-  found_is = q ∙ ap (λ (x : Slot). is_some (find x t)) p
-
-  pub one_skipped : r ≡ false → PutOne k out t writes i out k
-  one_skipped e =
-      let y : false ≡ is_some (find (slot_of (drop (i * 84) writes)) t) = sym e ∙ found_is in
-      record { next_is = ap (λ (x : Bool). cond x (k + 1) k) y; output_is = ap (λ (x : Bool). cond x (placed (k * 52) (part (i * 84) 52 writes) out) out) y }
-
-  pub one_put : (n : ℕ) (after : List ℕ) → r ≡ true → n ≡ 52 → after ≡ placed (k * 52) (part (i * 84) n writes) out → PutOne (k + 1) after t writes i out k
-  one_put n after e m g =
-      let y : true ≡ is_some (find (slot_of (drop (i * 84) writes)) t) = sym e ∙ found_is in
-      record { next_is = ap (λ (x : Bool). cond x (k + 1) k) y; output_is = g ∙ ap (λ (j : ℕ). placed (k * 52) (part (i * 84) j writes) out) m ∙ ap (λ (x : Bool). cond x (placed (k * 52) (part (i * 84) 52 writes) out) out) y }

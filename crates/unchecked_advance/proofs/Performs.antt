@@ -1,8 +1,8 @@
 -- Which kind an advance is, and what follows of a carry's child. Assumes nothing.
+use Rattle.std.specs.Prelude.{None, Some}
 use Prim.Native.Nat.{suc, ◌-◌, ◌^◌}
 use mathlib.Core.Path.{◌≡◌, refl, sym, ap, ◌∙◌}
 use mathlib.Core.Bool.{Bool, true, false, ◌&&◌, cond, true≢false}
-use mathlib.Core.Option.{some, none}
 use lib.Dec.{eqb, ltb}
 use borrow.Author.Tests.{eqb-true}
 use Rattle.model.specs.declared.storage_memo.U256.{U256}
@@ -15,28 +15,28 @@ use Rattle.model.specs.Store.{Config, Generation, Prepared, advance, perform, pe
 use Rattle.model.proofs.SlotLaws.{split, and_right}
 
 module _ (cfg : Config) (g : Generation) (child : ReadAnchor) (h : U256) (p : Prepared) where
-  pub performs_current : anchor_eqb g.anchor child ≡ true → perform cfg (some g) (advance child h p) ≡ performed g (already_current cfg g)
+  pub performs_current : anchor_eqb g.anchor child ≡ true → perform cfg (Some g) (advance child h p) ≡ performed g (already_current cfg g)
   unfolding perform
   performs_current e = rw e
 
-  pub performs_carry : anchor_eqb g.anchor child ≡ false → carries (classify_link (some g.anchor) child h) (skip_of p.skip) ≡ true → perform cfg (some g) (advance child h p) ≡ carry cfg g child p
+  pub performs_carry : anchor_eqb g.anchor child ≡ false → carries (classify_link (Some g.anchor) child h) (skip_of p.skip) ≡ true → perform cfg (Some g) (advance child h p) ≡ carry cfg g child p
   unfolding perform
   performs_carry e c = rw (e, c)
 
-  pub performs_cold : anchor_eqb g.anchor child ≡ false → carries (classify_link (some g.anchor) child h) (skip_of p.skip) ≡ false
-      → perform cfg (some g) (advance child h p) ≡ cold_advance cfg child (classify_link (some g.anchor) child h) p
+  pub performs_cold : anchor_eqb g.anchor child ≡ false → carries (classify_link (Some g.anchor) child h) (skip_of p.skip) ≡ false
+      → perform cfg (Some g) (advance child h p) ≡ cold_advance cfg child (classify_link (Some g.anchor) child h) p
   unfolding perform
   performs_cold e c = rw (e, c)
 
-  pub performs_first : perform cfg none (advance child h p) ≡ cold_advance cfg child (classify_link none child h) p
+  pub performs_first : perform cfg None (advance child h p) ≡ cold_advance cfg child (classify_link None child h) p
   unfolding perform
   performs_first = refl
 
 -- A carry has a parent, and its child's number is the parent's plus one.
-pub carries_none : (child : ReadAnchor) (h : U256) (x : BalSkip) → carries (classify_link none child h) x ≡ true → ⊥
+pub carries_none : (child : ReadAnchor) (h : U256) (x : BalSkip) → carries (classify_link None child h) x ≡ true → ⊥
 carries_none child h x e = true≢false (sym e)
 
-pub carries_next : (p child : ReadAnchor) (h : U256) (x : BalSkip) → carries (classify_link (some p) child h) x ≡ true → child.number ≡ suc p.number
+pub carries_next : (p child : ReadAnchor) (h : U256) (x : BalSkip) → carries (classify_link (Some p) child h) x ≡ true → child.number ≡ suc p.number
 carries_next p child h x e =
     let below : Bool = ltb p.number (2 ^ 64 - 1) in
     let next : Bool = eqb child.number (suc p.number) in

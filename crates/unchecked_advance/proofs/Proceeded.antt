@@ -1,9 +1,9 @@
 -- Which way an advance goes, and what an advance to the installed anchor comes to. Assumes nothing.
+use Rattle.std.specs.Prelude.{None, Option, Some}
 use Prim.Native.Nat.{ℕ, suc}
 use mathlib.Core.Path.{◌≡◌, refl, sym, ap, ap₂, subst, ◌∙◌}
 use mathlib.Core.Bool.{true, false}
 use mathlib.Core.List.{List}
-use mathlib.Core.Option.{Option, some, none}
 use lib.Dec.{ltb}
 use borrow.Author.Tests.{le-ltb}
 use Rattle.model.specs.declared.storage_memo.U256.{U256}
@@ -24,14 +24,14 @@ use Rattle.header.proofs.Images.{store_split}
 use Rattle.header.proofs.Guards.{Here}
 use Rattle.header.proofs.Guards.{Other}
 use Rattle.seal.specs.Sealed.{anchor_of, installed_anchor}
-use Rattle.replies.specs.declared.AdvanceReply.{AdvanceReply}
+use Rattle.replies.specs.Replies.{AdvanceReply}
 use Rattle.replies.specs.Replies.{advance_reply, AdvancedAs}
 use Rattle.replies.specs.Replies.{lent_prepared}
 use Rattle.unchecked_advance.specs.Inner.{ended}
 use Rattle.unchecked_advance.proofs.Performs.{performs_current, performs_carry, performs_cold, performs_first, carries_none, carries_next}
 
 -- The store laid over its own bytes changes none.
-own_bytes : (s : List ℕ) → Bytes s → Installed s → s ≡ overlay (memory_of (store_of s).config (some (generation_of s))) s
+own_bytes : (s : List ℕ) → Bytes s → Installed s → s ≡ overlay (memory_of (store_of s).config (Some (generation_of s))) s
 own_bytes s f h = store_split s (store_of s) f h.is_store ∙ ap (λ (o : Option Generation). overlay (memory_of (store_of s).config o) s) h.installs
 
 module _ (s : List ℕ) (child : ReadAnchor) (h : U256) (k : ℕ) (addresses writes : List ℕ) where
@@ -50,7 +50,7 @@ module _ (s : List ℕ) (child : ReadAnchor) (h : U256) (k : ℕ) (addresses wri
       let g : Generation = generation_of s in
       let y : does (store_of s).installed ≡ performed g (already_current cfg g) = ap does e.has.installs ∙ performs_current cfg g child h p e.same in
       let room : ltb cfg.capacity (record_count (chain g)) ≡ false = le-ltb cfg.capacity (record_count (chain g)) (generation_in s e.has).facts.few_records in
-      let z : ended cfg (performed g (already_current cfg g)) s ≡ record { bytes = overlay (memory_of cfg (some g)) s; answer = ok (already_current cfg g) } = rw room in
+      let z : ended cfg (performed g (already_current cfg g)) s ≡ record { bytes = overlay (memory_of cfg (Some g)) s; answer = ok (already_current cfg g) } = rw room in
       subst (λ (o : BytesResult). AdvancedAs r s out o out) (sym (ap (λ (x : Performed). ended cfg x s) y ∙ z)) (record { answer_is = q; bytes_is = own_bytes s f e.has; output_is = refl })
 
   -- By a carry: something is installed, and the child's number is the next.
@@ -64,8 +64,8 @@ module _ (s : List ℕ) (child : ReadAnchor) (h : U256) (k : ℕ) (addresses wri
     proceed_carry l x m q c = go (store_of s).installed refl other (sym (ap₂ carries m q) ∙ c)
       where
         go : (o : Option Generation) → (store_of s).installed ≡ o → Other o child → carries (classify_link (anchor_of o) child h) (skip_of k) ≡ true → Carries
-        go none i y t = absurd (carries_none child h (skip_of k) t)
-        go (some g) i y t =
+        go None i y t = absurd (carries_none child h (skip_of k) t)
+        go (Some g) i y t =
             let same : generation_of s ≡ g = generation_is s (store_of s) g e i in
             record {
               has = installed s (store_of s) g e i;
@@ -81,8 +81,8 @@ module _ (s : List ℕ) (child : ReadAnchor) (h : U256) (k : ℕ) (addresses wri
       where
         go : (o : Option Generation) → Other o child → carries (classify_link (anchor_of o) child h) (skip_of k) ≡ false
             → does o ≡ cold_advance (store_of s).config child (classify_link (anchor_of o) child h) p
-        go none y t = performs_first (store_of s).config (generation_of s) child h p
-        go (some g) y t = performs_cold (store_of s).config g child h p y t
+        go None y t = performs_first (store_of s).config (generation_of s) child h p
+        go (Some g) y t = performs_cold (store_of s).config g child h p y t
 
   -- The same answer of what is performed another way.
   pub as_performed : (q : Performed) (r : AdvanceReply) (after out' out : List ℕ) → does (store_of s).installed ≡ q → AdvancedAs r after out' (ended (store_of s).config q s) out

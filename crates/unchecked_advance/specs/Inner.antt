@@ -1,6 +1,5 @@
 -- What the parts of an advance on a known store speak of.
-use Rattle.std.specs.Prelude.{ℕ, ◌≡◌, Bool, cond, List, [], ltb, length}
-use Rattle.std.proofs.Math.Option.{some}
+use Rattle.std.specs.Prelude.{ℕ, ◌≡◌, Bool, cond, List, [], ltb, length, Some}
 use Rattle.model.specs.declared.delta_snapshot.Retention.{Retention}
 use Rattle.model.specs.declared.read_hub.CarryOutcome.{CarryOutcome}
 use Rattle.model.specs.Layers.{held_count, live_count, record_count}
@@ -32,7 +31,7 @@ too_many cfg p = if_installed p.installed (λ g. ltb cfg.capacity (record_count 
 abbrev pub ended : Config → Performed → List ℕ → BytesResult
 ended cfg p s =
     cond (too_many cfg p) (record { bytes = s; answer = refuse 23 })
-    (record { bytes = overlay (some (record { config = cfg; installed = p.installed })) s; answer = ok p.report })
+    (record { bytes = overlay (Some (record { config = cfg; installed = p.installed })) s; answer = ok p.report })
 
 -- What the writes of an advance perform over the store that it began in the work area.
 abbrev pub writing : List ℕ → List ℕ → List ℕ → CarryOutcome → CompactionReport → Performed

@@ -1,8 +1,7 @@
 // An advance of a store known to be right.
 #![tactic(auto)]
 
-ghost use Rattle.std.specs.Prelude.{◌≡◌, List, ℕ, suc, ◌+◌, ◌*◌, ◌/◌, ◌≤◌, length, take, true};
-ghost use Rattle.model.specs.Contents.{is_some};
+ghost use Rattle.std.specs.Prelude.{◌≡◌, List, ℕ, suc, ◌+◌, ◌*◌, ◌/◌, ◌≤◌, length, take, true, is_some};
 ghost use Rattle.model.specs.Layers.{find};
 ghost use Rattle.model.specs.Entries.{writes_of, with_slots};
 ghost use Rattle.model.specs.Advance.{skip_of};
@@ -13,7 +12,7 @@ ghost use Rattle.image.specs.WellFormed.{anchor_fits};
 ghost use Rattle.words.specs.Parts.{placed};
 ghost use Rattle.image.specs.Image.{bytes_step};
 ghost use Rattle.image.specs.Lent.{store_of, generation_of, IsStore, Installed};
-ghost use Rattle.unchecked_advance.specs.Outputs.{PutOne, applied_in};
+ghost use Rattle.unchecked_advance.specs.Outputs.{applied_in};
 ghost use Rattle.replies.specs.Replies.{advance_reply, advance_call, AdvancedAs};
 ghost use Rattle.replies.specs.Replies.{lent_prepared};
 ghost use Rattle.unchecked_advance.specs.Inner.{CountedAs, CountsBefore, Ready, ended, writing};
@@ -22,8 +21,8 @@ use counts::Counts;
 use model::bal_prefetch::BalSkip;
 use model::delta_snapshot::{CompactionReport, Slot};
 use model::read_hub::{CarryOutcome, Lineage};
+use model::refusal::Refusal;
 use model::storage_memo::{B256, ReadAnchor};
-use records::Found;
 use replies::{AdvanceReply, DeltaReport, WriteCounts};
 use seed::Seeded;
 
@@ -53,23 +52,9 @@ fn in_top(s: &[u8], slot: Slot) -> bool
     ensures { result ≡ is_some (find slot (generation_of s.now).top) }
 {
     match layers::top_place(s, slot) {
-        Found::At(_) => true,
-        Found::Absent(_) => false,
+        Ok(_) => true,
+        Err(_) => false,
     }
-}
-
-// Puts the slot of write i to the output's entry k if the top has a record of it. The next entry.
-fn put_one(work: &[u8], writes: &[u8], i: usize, out: &mut [u8], k: usize) -> usize
-    requires { Installed work.now × (i * 84 + 84 ≤ length writes.now) × (k * 52 + 52 ≤ length out.old) }
-    ensures { PutOne result out.new (generation_of work.now).top writes.now i out.old k }
-{
-    let slot = seed::write_slot_of(writes, i);
-    if !in_top(work, slot) {
-        return k;
-    }
-    let at = i * 84;
-    words::place(out, k * 52, &writes[at..at + 52]);
-    k + 1
 }
 
 // Puts the slots of the applied writes to the output: those that the new top has a record of. How many they are.
@@ -77,12 +62,13 @@ pub fn write_outputs(work: &[u8], writes: &[u8], out: &mut [u8]) -> usize
     requires { Installed work.now × (length writes.now / 84 * 52 ≤ length out.old) }
     ensures { (out.new ≡ with_slots (applied_in (generation_of work.now).top (writes_of writes.now)) out.old) × (result ≡ length (applied_in (generation_of work.now).top (writes_of writes.now))) }
 {
-    let n = writes.len() / 84;
     let mut k = 0;
-    let mut i = 0;
-    while i < n {
-        k = put_one(work, writes, i, out, k);
-        i += 1;
+    for i in 0..writes.len() / 84 {
+        if in_top(work, seed::write_slot_of(writes, i)) {
+            let at = i * 84;
+            words::place(out, k * 52, &writes[at..at + 52]);
+            k += 1;
+        }
     }
     k
 }
@@ -116,13 +102,13 @@ fn finish(
 {
     let seeded = seed::seed_final_writes(work, addresses, writes);
     let Seeded::Done(applied) = seeded else {
-        return AdvanceReply::Refused(23);
+        return Err(Refusal::OverCapacity);
     };
     let counted = count_after(work, writes, out, applied.applied, before);
     let n = layout::RECORDS_OFFSET
         + layout::RECORD_SIZE * (words::read_u64(s, layout::CAPACITY_OFFSET) as usize);
     copy_back(s, work, n);
-    AdvanceReply::Advanced(DeltaReport {
+    Ok(DeltaReport {
         outcome,
         writes: applied,
         held: counted.held,
@@ -197,7 +183,7 @@ fn current(s: &[u8]) -> AdvanceReply
     ensures { (out : List ℕ) → advance_reply result out ≡ ok (already_current (store_of s.now).config (generation_of s.now)) }
 {
     let counted = counts_of(s);
-    AdvanceReply::Advanced(DeltaReport {
+    Ok(DeltaReport {
         outcome: CarryOutcome::AlreadyCurrent,
         writes: WriteCounts {
             applied: 0,
@@ -228,7 +214,7 @@ fn proceed(
     requires { IsStore s.old × (anchor_fits child ≡ true) × (store_size (store_of s.old).config.capacity ≤ length work.old) × (length writes.now / 84 * 52 ≤ length out.old) }
     ensures { AdvancedAs result s.new out.new (ended (store_of s.old).config (perform (store_of s.old).config (store_of s.old).installed (calls.advance child parent_hash (lent_prepared skip addresses.now writes.now))) s.old) out.old }
 {
-    if header::guard(s, child) == 0 {
+    if header::guard(s, child) == Ok(()) {
         return current(s);
     }
     let lineage = seal::classify_link(s, child, parent_hash);
@@ -256,20 +242,20 @@ pub fn advance(
     let n = writes.len() / 84;
     if skip != 0 {
         if n != 0 {
-            return AdvanceReply::Refused(6);
+            return Err(Refusal::SkipWithWrites);
         }
         if 3 < skip {
-            return AdvanceReply::Refused(7);
+            return Err(Refusal::SkipOutOfRange);
         }
     }
     if work.len()
         < layout::RECORDS_OFFSET
             + layout::RECORD_SIZE * (words::read_u64(s, layout::CAPACITY_OFFSET) as usize)
     {
-        return AdvanceReply::Refused(9);
+        return Err(Refusal::LentTooShort);
     }
     if out.len() / 52 < n {
-        return AdvanceReply::Refused(9);
+        return Err(Refusal::LentTooShort);
     }
     proceed(s, child, parent_hash, skip, addresses, writes, work, out)
 }

@@ -1,9 +1,9 @@
 -- What open, install, look, get and put come to on bytes.
+use Rattle.std.specs.Prelude.{None, Option, Some}
 use Prim.Native.Nat.{ℕ, ◌≤◌, ◌<◌}
 use mathlib.Core.Path.{◌≡◌, refl, sym, ap, ap₂, subst, ◌∙◌}
 use mathlib.Core.Bool.{Bool, true, false, cond}
 use mathlib.Core.List.{List, [], ◌∷◌}
-use mathlib.Core.Option.{Option, some, none}
 use native.Mathlib.Omega.{arith}
 use lib.Dec.{ltb}
 use lib.ListN.{length}
@@ -37,14 +37,14 @@ result b o = record { bytes = bytes_after o b; answer = o.answer }
 
 -- A call refused, and a call accepted.
 module _ (b : List ℕ) (m : Memory) (c : Call) (e : decode b ≡ m) where
-  pub turned_down : (n : ℕ) → refusal m (lent b) c ≡ some n → Stepped (refuse n) b (bytes_step b (alone c))
+  pub turned_down : (n : ℕ) → refusal m (lent b) c ≡ Some n → Stepped (refuse n) b (bytes_step b (alone c))
   unfolding bytes_step step
   turned_down n r =
       let q : bytes_step b (alone c) ≡ record { bytes = b; answer = refuse n } =
       ap (λ (x : Memory). result b (conclude (refusal x (lent b) c) x (accept x c))) e ∙ ap (λ (o : Option ℕ). result b (conclude o m (accept m c))) r in
       record { answer_is = ap (λ (o : BytesResult). o.answer) (sym q); bytes_is = ap (λ (o : BytesResult). o.bytes) (sym q) }
 
-  pub taken_up : (x : Accepted) → refusal m (lent b) c ≡ none → accept m c ≡ x → Stepped (ok x.report) (overlay x.memory b) (bytes_step b (alone c))
+  pub taken_up : (x : Accepted) → refusal m (lent b) c ≡ None → accept m c ≡ x → Stepped (ok x.report) (overlay x.memory b) (bytes_step b (alone c))
   unfolding bytes_step step
   taken_up x r a =
       let q : bytes_step b (alone c) ≡ record { bytes = overlay x.memory b; answer = ok x.report } =
@@ -56,36 +56,36 @@ pub with_bytes : {a : Answer} {x y : List ℕ} {o : BytesResult} → y ≡ x →
 with_bytes e h = record { answer_is = h.answer_is; bytes_is = e ∙ h.bytes_is }
 
 -- 21 and 22 of a call at an anchor.
-module _ (b : List ℕ) (st : Store) (a : ReadAnchor) {k : AnchoredCall} (p : Plain k) (e : decode b ≡ some st) where
-  pub said_21 : st.installed ≡ none → Stepped (refuse 21) b (bytes_step b (alone (on_store (at_anchor a k))))
-  said_21 i = turned_down b (memory_of st.config none) _ (e ∙ ap (memory_of st.config) i) 21 (nothing_there st.config (lent b) a p)
+module _ (b : List ℕ) (st : Store) (a : ReadAnchor) {k : AnchoredCall} (p : Plain k) (e : decode b ≡ Some st) where
+  pub said_21 : st.installed ≡ None → Stepped (refuse 21) b (bytes_step b (alone (on_store (at_anchor a k))))
+  said_21 i = turned_down b (memory_of st.config None) _ (e ∙ ap (memory_of st.config) i) 21 (nothing_there st.config (lent b) a p)
 
-  pub said_22 : (g : Generation) → st.installed ≡ some g → anchor_eqb g.anchor a ≡ false → Stepped (refuse 22) b (bytes_step b (alone (on_store (at_anchor a k))))
-  said_22 g i q = turned_down b (memory_of st.config (some g)) _ (e ∙ ap (memory_of st.config) i) 22 (other_there st.config g (lent b) a p q)
+  pub said_22 : (g : Generation) → st.installed ≡ Some g → anchor_eqb g.anchor a ≡ false → Stepped (refuse 22) b (bytes_step b (alone (on_store (at_anchor a k))))
+  said_22 g i q = turned_down b (memory_of st.config (Some g)) _ (e ∙ ap (memory_of st.config) i) 22 (other_there st.config g (lent b) a p q)
 
 -- With the anchor installed.
-module _ (b : List ℕ) (st : Store) (g : Generation) (f : Bytes b) (e : decode b ≡ some st) (i : st.installed ≡ some g) where
-  decoded : decode b ≡ memory_of st.config (some g)
+module _ (b : List ℕ) (st : Store) (g : Generation) (f : Bytes b) (e : decode b ≡ Some st) (i : st.installed ≡ Some g) where
+  decoded : decode b ≡ memory_of st.config (Some g)
   decoded = e ∙ ap (memory_of st.config) i
 
   few : record_count (chain g) ≤ st.config.capacity
   few = (generation_facts st.config g (subst (λ (x : Option Generation). installed_ok st.config x ≡ true) i (store_facts st (decode_some b st e).right).installed_right)).few_records
 
   -- The store laid over its own bytes changes none.
-  unchanged : b ≡ overlay (memory_of st.config (some g)) b
+  unchanged : b ≡ overlay (memory_of st.config (Some g)) b
   unchanged = store_split b st f e ∙ ap (λ (m : Option Generation). overlay (memory_of st.config m) b) i
 
   -- A call that would leave a generation h: refused by 23, or accepted.
   module _ (a : ReadAnchor) {k : AnchoredCall} (p : Plain k) (same : anchor_eqb g.anchor a ≡ true) where
-    over : (h : Generation) (x : Accepted) → accept (memory_of st.config (some g)) (on_store (at_anchor a k)) ≡ x → x.memory ≡ memory_of st.config (some h) → (t : Bool) → ltb st.config.capacity (record_count (chain h)) ≡ t →
-        refusal (memory_of st.config (some g)) (lent b) (on_store (at_anchor a k)) ≡ cond t (some 23) none
-    over h x q r t z = this_there st.config g (lent b) a p same ∙ ap (λ (y : Bool). cond y (some 23) none) (over_by _ _ st.config h x q r ∙ z)
+    over : (h : Generation) (x : Accepted) → accept (memory_of st.config (Some g)) (on_store (at_anchor a k)) ≡ x → x.memory ≡ memory_of st.config (Some h) → (t : Bool) → ltb st.config.capacity (record_count (chain h)) ≡ t →
+        refusal (memory_of st.config (Some g)) (lent b) (on_store (at_anchor a k)) ≡ cond t (Some 23) None
+    over h x q r t z = this_there st.config g (lent b) a p same ∙ ap (λ (y : Bool). cond y (Some 23) None) (over_by _ _ st.config h x q r ∙ z)
 
-    full : (h : Generation) (x : Accepted) → accept (memory_of st.config (some g)) (on_store (at_anchor a k)) ≡ x → x.memory ≡ memory_of st.config (some h) → st.config.capacity < record_count (chain h) →
+    full : (h : Generation) (x : Accepted) → accept (memory_of st.config (Some g)) (on_store (at_anchor a k)) ≡ x → x.memory ≡ memory_of st.config (Some h) → st.config.capacity < record_count (chain h) →
         Stepped (refuse 23) b (bytes_step b (alone (on_store (at_anchor a k))))
     full h x q r z = turned_down b _ _ decoded 23 (over h x q r true (lt-ltb _ _ z))
 
-    room : (h : Generation) (x : Accepted) → accept (memory_of st.config (some g)) (on_store (at_anchor a k)) ≡ x → x.memory ≡ memory_of st.config (some h) → record_count (chain h) ≤ st.config.capacity →
+    room : (h : Generation) (x : Accepted) → accept (memory_of st.config (Some g)) (on_store (at_anchor a k)) ≡ x → x.memory ≡ memory_of st.config (Some h) → record_count (chain h) ≤ st.config.capacity →
         Stepped (ok x.report) (overlay x.memory b) (bytes_step b (alone (on_store (at_anchor a k))))
     room h x q r z = taken_up b _ _ decoded x (over h x q r false (le-ltb _ _ z)) q
 
@@ -95,14 +95,14 @@ module _ (b : List ℕ) (st : Store) (g : Generation) (f : Bytes b) (e : decode 
         subst (λ (x : Option Value). Stepped (ok (value_report x)) b (bytes_step b (alone (on_store (at_anchor a (on_slot (look s))))))) (sym q)
         (with_bytes unchanged (room a (plain_look s) same g _ (look_accepted st.config g a s) refl few))
 
-    pub said_none : resolved st.config.retention g s ≡ none → Stepped (ok no_value) b (bytes_step b (alone (on_store (at_anchor a (on_slot (get s))))))
+    pub said_none : resolved st.config.retention g s ≡ None → Stepped (ok no_value) b (bytes_step b (alone (on_store (at_anchor a (on_slot (get s))))))
     said_none q = with_bytes unchanged (room a (plain_get s) same g _ (get_unserved st.config g a s q) refl few)
 
-    pub said_get : (v : Value) → resolved st.config.retention g s ≡ some v → record_count (touched_top g s ∷ g.base) ≤ st.config.capacity →
+    pub said_get : (v : Value) → resolved st.config.retention g s ≡ Some v → record_count (touched_top g s ∷ g.base) ≤ st.config.capacity →
         Stepped (ok (value v)) (overlay (topped st.config g (touched_top g s)) b) (bytes_step b (alone (on_store (at_anchor a (on_slot (get s))))))
     said_get v q z = room a (plain_get s) same (with_top g (touched_top g s)) _ (get_served st.config g a s v q) refl z
 
-    pub said_get_full : (v : Value) → resolved st.config.retention g s ≡ some v → st.config.capacity < record_count (touched_top g s ∷ g.base) →
+    pub said_get_full : (v : Value) → resolved st.config.retention g s ≡ Some v → st.config.capacity < record_count (touched_top g s ∷ g.base) →
         Stepped (refuse 23) b (bytes_step b (alone (on_store (at_anchor a (on_slot (get s))))))
     said_get_full v q z = full a (plain_get s) same (with_top g (touched_top g s)) _ (get_served st.config g a s v q) refl z
 
@@ -116,8 +116,8 @@ module _ (b : List ℕ) (st : Store) (g : Generation) (f : Bytes b) (e : decode 
   pub said_same : (a : ReadAnchor) → anchor_eqb g.anchor a ≡ true → Stepped (ok anchor_same) b (bytes_step b (alone (on_store (install a))))
   said_same a same =
       let q = install_same st.config g a same in
-      let z : over_capacity (memory_of st.config (some g)) (on_store (install a)) ≡ false = over_by _ _ st.config g _ q refl ∙ le-ltb _ _ few in
-      with_bytes unchanged (taken_up b _ _ decoded _ (install_free st.config (some g) (lent b) a ∙ ap (λ (y : Bool). cond y (some 23) none) z) q)
+      let z : over_capacity (memory_of st.config (Some g)) (on_store (install a)) ≡ false = over_by _ _ st.config g _ q refl ∙ le-ltb _ _ few in
+      with_bytes unchanged (taken_up b _ _ decoded _ (install_free st.config (Some g) (lent b) a ∙ ap (λ (y : Bool). cond y (Some 23) None) z) q)
 
 -- A fresh generation has no records.
 no_records : (a : ReadAnchor) → record_count (chain (new_generation a void_base [])) ≡ 0
@@ -125,15 +125,15 @@ unfolding record_count
 no_records a = refl
 
 install_fresh : (cfg : Config) (o : Option Generation) (a : ReadAnchor) → Other o a → accept (memory_of cfg o) (on_store (install a)) ≡ record { memory = memory_of cfg (fresh a).installed; report = anchor_fresh }
-install_fresh cfg none a p = install_first cfg a
-install_fresh cfg (some g) a p = install_other cfg g a p
+install_fresh cfg None a p = install_first cfg a
+install_fresh cfg (Some g) a p = install_other cfg g a p
 
-pub said_fresh : (b : List ℕ) (st : Store) (a : ReadAnchor) → decode b ≡ some st → Other st.installed a → Stepped (ok anchor_fresh) (overlay (begun st.config a) b) (bytes_step b (alone (on_store (install a))))
+pub said_fresh : (b : List ℕ) (st : Store) (a : ReadAnchor) → decode b ≡ Some st → Other st.installed a → Stepped (ok anchor_fresh) (overlay (begun st.config a) b) (bytes_step b (alone (on_store (install a))))
 said_fresh b st a e p =
     let q = install_fresh st.config st.installed a p in
     let n : record_count (chain (new_generation a void_base [])) ≤ st.config.capacity = omega (arith, no_records a) in
-    let z : over_capacity (some st) (on_store (install a)) ≡ false = over_by _ _ st.config (new_generation a void_base []) _ q refl ∙ le-ltb _ _ n in
-    taken_up b (some st) _ e _ (install_free st.config st.installed (lent b) a ∙ ap (λ (y : Bool). cond y (some 23) none) z) q
+    let z : over_capacity (Some st) (on_store (install a)) ≡ false = over_by _ _ st.config (new_generation a void_base []) _ q refl ∙ le-ltb _ _ n in
+    taken_up b (Some st) _ e _ (install_free st.config st.installed (lent b) a ∙ ap (λ (y : Bool). cond y (Some 23) None) z) q
 
 -- Open ------------------------------------------------------------------------------------------------
 

@@ -1,17 +1,17 @@
 // The calls open, install, look, get and put on bytes that are known to be a store.
 #![tactic(auto)]
 
-ghost use Rattle.std.specs.Prelude.{◌≡◌, true, ◌≤◌, ◌<◌, length};
-ghost use Rattle.model.specs.Contents.{is_some};
+ghost use Rattle.std.specs.Prelude.{◌≡◌, true, ◌≤◌, ◌<◌, length, is_some};
 ghost use Rattle.model.specs.Refusals.{store_size};
 ghost use Rattle.model.specs.Store as calls;
 ghost use Rattle.model.specs.Store.{on_store, at_anchor, on_slot, open_store};
 ghost use Rattle.image.specs.Image.{decode, bytes_step};
 ghost use Rattle.replies.specs.Replies.{open_reply, install_reply, look_reply, put_reply, alone, Stepped};
 
-use model::delta_snapshot::{Held, Retention, Slot};
+use model::delta_snapshot::{Retention, Slot};
+use model::refusal::Refusal;
 use model::storage_memo::{ReadAnchor, U256};
-use replies::{InstallReply, LookReply, OpenReply, PutReply};
+use replies::{InstallReply, Installed, LookReply, OpenReply, PutReply};
 
 // An open that is not refused.
 pub fn open(s: &mut [u8], capacity: u64, max_depth: u64, retention: Retention) -> OpenReply
@@ -19,7 +19,7 @@ pub fn open(s: &mut [u8], capacity: u64, max_depth: u64, retention: Retention) -
     ensures { Stepped (open_reply result) s.new (bytes_step s.old (alone (open_store capacity max_depth retention))) }
 {
     header::start(s, capacity, max_depth, retention);
-    OpenReply::Opened
+    Ok(())
 }
 
 // An install (`for_anchor`).
@@ -27,11 +27,11 @@ pub fn install(s: &mut [u8], anchor: ReadAnchor) -> InstallReply
     requires { is_some (decode s.old) ≡ true }
     ensures { Stepped (install_reply result) s.new (bytes_step s.old (alone (on_store (calls.install anchor)))) }
 {
-    if header::guard(s, anchor) == 0 {
-        return InstallReply::Same;
+    if let Ok(()) = header::guard(s, anchor) {
+        return Ok(Installed::Same);
     }
     header::begin(s, anchor);
-    InstallReply::Fresh
+    Ok(Installed::Fresh)
 }
 
 // A look (`snapshot_value`).
@@ -39,14 +39,9 @@ pub fn look(s: &[u8], anchor: ReadAnchor, slot: Slot) -> LookReply
     requires { is_some (decode s.now) ≡ true }
     ensures { Stepped (look_reply result) s.now (bytes_step s.now (alone (on_store (at_anchor anchor (on_slot (calls.look slot)))))) }
 {
-    let n = header::guard(s, anchor);
-    if n != 0 {
-        return LookReply::Refused(n);
-    }
-    let Held::Value(held) = layers::resolved(s, slot) else {
-        return LookReply::Nothing;
-    };
-    LookReply::Value(held)
+    header::guard(s, anchor)?;
+    let held = layers::resolved(s, slot);
+    Ok(held)
 }
 
 // A get (`StorageView::get`): a served slot's own use is set to the installed number.
@@ -54,19 +49,16 @@ pub fn get(s: &mut [u8], anchor: ReadAnchor, slot: Slot) -> LookReply
     requires { is_some (decode s.old) ≡ true }
     ensures { Stepped (look_reply result) s.new (bytes_step s.old (alone (on_store (at_anchor anchor (on_slot (calls.get slot)))))) }
 {
-    let n = header::guard(s, anchor);
-    if n != 0 {
-        return LookReply::Refused(n);
-    }
+    header::guard(s, anchor)?;
     let place = layers::top_place(s, slot);
-    let Held::Value(v) = layers::resolved_at(s, place, slot) else {
-        return LookReply::Nothing;
+    let Some(v) = layers::resolved_at(s, place, slot) else {
+        return Ok(None);
     };
     if !top::has_room(s, place) {
-        return LookReply::Refused(23);
+        return Err(Refusal::OverCapacity);
     }
     top::touch_top(s, place, slot);
-    LookReply::Value(v)
+    Ok(Some(v))
 }
 
 // A put (`settle`): value and use are set, even where the value is the same.
@@ -74,14 +66,11 @@ pub fn put(s: &mut [u8], anchor: ReadAnchor, slot: Slot, value: U256) -> PutRepl
     requires { is_some (decode s.old) ≡ true }
     ensures { Stepped (put_reply result) s.new (bytes_step s.old (alone (on_store (at_anchor anchor (on_slot (calls.put slot value)))))) }
 {
-    let n = header::guard(s, anchor);
-    if n != 0 {
-        return PutReply::Refused(n);
-    }
+    header::guard(s, anchor)?;
     let place = layers::top_place(s, slot);
     if !top::has_room(s, place) {
-        return PutReply::Refused(23);
+        return Err(Refusal::OverCapacity);
     }
     top::settle_top(s, place, slot, value);
-    PutReply::Stored
+    Ok(())
 }

@@ -1,8 +1,8 @@
 -- The image of a store with a generation in segments: before the number of awaiting slots, up to their area, the area, the records; other awaiting slots and other totals.
+use Rattle.std.specs.Prelude.{Option, Some}
 use Prim.Native.Nat.{ℕ, pred, ◌-◌, ◌*◌, ◌^◌, ◌≤◌, ◌<◌}
 use mathlib.Core.Path.{◌≡◌, sym, ap, ap₂, subst, ◌∙◌}
 use mathlib.Core.List.{List, [], ◌∷◌, ◌++◌, append_assoc, append-nil}
-use mathlib.Core.Option.{Option, some}
 use native.Mathlib.Omega.{arith}
 use lib.ListN.{length, take, drop, length-append, length-drop, drop_of_length-le}
 use lib.Seq.{take_at, drop_at, take_all}
@@ -61,7 +61,7 @@ regroup x n d k p c h t e a r = simp append_assoc
 
 -- A store's words.
 abbrev stored : Config → Generation → Store
-stored cfg g = record { config = cfg; installed = some g }
+stored cfg g = record { config = cfg; installed = Some g }
 
 words_split : (cfg : Config) (g : Generation) → image_words (stored cfg g) ≡ before cfg g ++ (length g.pending ∷ (between g ++ (padded awaiting_table (all_pending_words g.pending) ++ records cfg g)))
 unfolding image_words
@@ -127,7 +127,7 @@ module _ (cfg : Config) (g : Generation) (k : Sized cfg g) where
       ∙ omega (arith, length-append n (m ++ (a ++ (r ++ []))), length-append m (a ++ (r ++ [])), length-append a (r ++ []), ap length (append-nil r), length_before cfg g, length_between, length_area, length_record_bytes, length_be 8 (length g.pending))
 
   -- The store laid over bytes.
-  pub laid : (b : List ℕ) → overlay (some (stored cfg g)) b ≡ image (stored cfg g) ++ drop (store_size cfg.capacity) b
+  pub laid : (b : List ℕ) → overlay (Some (stored cfg g)) b ≡ image (stored cfg g) ++ drop (store_size cfg.capacity) b
   laid b = ap (λ (n : ℕ). image (stored cfg g) ++ drop n b) image_size
 
   -- The bytes from the awaiting area on.

@@ -1,17 +1,15 @@
 -- What read, take and the answers come to on bytes.
+use Rattle.std.specs.Prelude.{None, Option, Some, Ok, Err}
 use Prim.Native.Nat.{ℕ, suc, ◌≤◌, ◌<◌}
 use mathlib.Core.Path.{◌≡◌, refl, sym, ap, ap₂, subst, ◌∙◌}
 use mathlib.Core.Bool.{Bool, true, false, not, ◌&&◌, cond}
 use mathlib.Core.List.{List, [], ◌∷◌}
-use mathlib.Core.Option.{Option, some, none}
 use native.Mathlib.Omega.{arith}
 use lib.Dec.{leb, ltb}
 use lib.ListN.{length}
 use borrow.Author.Tests.{eq-eqb, lt-ltb, le-ltb, le-leb, lt-leb}
 use Rattle.model.specs.declared.delta_snapshot.Slot.{Slot}
 use Rattle.model.specs.declared.storage_memo.ReadAnchor.{ReadAnchor}
-use Rattle.model.specs.declared.storage_memo.BlockHash.{BlockHash}
-use Rattle.model.specs.declared.storage_memo.BlockHash.TheVariants.{Unknown, Known}
 use Rattle.model.specs.Slots.{Value, u256_words, u256_eqb, hash_eqb, anchor_eqb}
 use Rattle.model.proofs.SlotLaws.{and_intro, words_eqb_refl, anchor_eqb_true}
 use Rattle.model.specs.Layers.{Layer, record_count}
@@ -24,12 +22,16 @@ use Rattle.image.specs.Image.{decode, overlay, bytes_after, BytesCall, BytesResu
 use Rattle.image.specs.Lent.{store_of, generation_of, IsStore, Installed}
 use Rattle.image.proofs.Lent.{generation_in}
 use Rattle.replies.specs.Replies.{alone, Stepped, Took}
+use Rattle.model.specs.Refusals.{refusal_number}
+use Rattle.model.specs.declared.refusal.Refusal.{Refusal}
+use Rattle.model.specs.declared.refusal.Refusal.TheVariants.{NamesTwice, NothingInstalled, AnotherAnchor}
 use Rattle.header.specs.Header.{anchored_refusal}
+use Rattle.header.proofs.Guards.{stopped}
 use Rattle.unchecked_calls.proofs.Turned.{memory_of, over_by}
 use Rattle.header.proofs.Guards.{Here}
-use Rattle.replies.specs.declared.TakeReply.TheVariants.{Refused as take_refused, Listed}
 use Rattle.unchecked_reads.specs.Inner.{reading, awaited, answer_refusal}
 use Rattle.unchecked_reads.proofs.Turned.{twice, nothing_there, other_there, read_here, read_served, read_waits, take_here, take_accepted, answer_here, failed_here, answer_accepted, failed_accepted}
+use Rattle.model.specs.declared.storage_memo.U256.{U256}
 
 abbrev lent : List ℕ → BytesCall → Lent
 lent b c = (lent_call (length b) c).lent
@@ -39,12 +41,12 @@ result b o = record { bytes = bytes_after o b; answer = o.answer }
 
 -- A call refused, and a call accepted.
 module _ (b : List ℕ) (m : Memory) (c : BytesCall) (e : decode b ≡ m) where
-  pub turned_down : (n : ℕ) → refusal m (lent b c) c.call ≡ some n → bytes_step b c ≡ record { bytes = b; answer = refuse n }
+  pub turned_down : (n : ℕ) → refusal m (lent b c) c.call ≡ Some n → bytes_step b c ≡ record { bytes = b; answer = refuse n }
   unfolding bytes_step step
   turned_down n r =
       ap (λ (x : Memory). result b (conclude (refusal x (lent b c) c.call) x (accept x c.call))) e ∙ ap (λ (o : Option ℕ). result b (conclude o m (accept m c.call))) r
 
-  pub taken_up : (x : Accepted) → refusal m (lent b c) c.call ≡ none → accept m c.call ≡ x → bytes_step b c ≡ record { bytes = overlay x.memory b; answer = ok x.report }
+  pub taken_up : (x : Accepted) → refusal m (lent b c) c.call ≡ None → accept m c.call ≡ x → bytes_step b c ≡ record { bytes = overlay x.memory b; answer = ok x.report }
   unfolding bytes_step step
   taken_up x r a =
       ap (λ (x : Memory). result b (conclude (refusal x (lent b c) c.call) x (accept x c.call))) e ∙ ap₂ (λ (o : Option ℕ) (y : Accepted). result b (conclude o m y)) r a
@@ -54,14 +56,14 @@ pub stepped : {a : Answer} {x : List ℕ} {o : BytesResult} → o ≡ record { b
 stepped q = record { answer_is = ap (λ (o : BytesResult). o.answer) (sym q); bytes_is = ap (λ (o : BytesResult). o.bytes) (sym q) }
 
 -- What a take's contract names: a refusal, and a list.
-pub took_none : {b out : List ℕ} {n : ℕ} {o : BytesResult} → o ≡ record { bytes = b; answer = refuse n } → Took (take_refused n) b out out o
-took_none {b} {out} {n} {o} q = subst (λ (x : BytesResult). Took (take_refused n) b out out x) (sym q) (record { answer_is = refl; bytes_is = refl; output_is = refl })
+pub took_none : {b out : List ℕ} {n : Refusal} {o : BytesResult} → o ≡ record { bytes = b; answer = refuse (refusal_number n) } → Took (Err n) b out out o
+took_none {b} {out} {n} {o} q = subst (λ (x : BytesResult). Took (Err n) b out out x) (sym q) (record { answer_is = refl; bytes_is = refl; output_is = refl })
 
 pub took : {b x out y : List ℕ} {n : ℕ} {ss : List Slot} {o : BytesResult} → o ≡ record { bytes = b; answer = ok (listed ss) } → Each SlotFits ss → n ≡ length ss → x ≡ b → y ≡ with_slots ss out
-    → Took (Listed n) x y out o
+    → Took (Ok n) x y out o
 took {b} {x} {out} {y} {n} {ss} {o} q t e f g =
     let k : first_slots n y ≡ ss = ap₂ first_slots e g ∙ slots_back out t in
-    subst (λ (r : BytesResult). Took (Listed n) x y out r) (sym q) (record { answer_is = ap (λ (l : List Slot). ok (listed l)) k; bytes_is = f; output_is = g })
+    subst (λ (r : BytesResult). Took (Ok n) x y out r) (sym q) (record { answer_is = ap (λ (l : List Slot). ok (listed l)) k; bytes_is = f; output_is = g })
 
 -- 8, 21 and 22.
 abbrev anchored : ReadAnchor → AnchoredCall → ℕ → BytesCall
@@ -74,47 +76,50 @@ none_twice = refl
 
 module _ (b : List ℕ) (a : ReadAnchor) (k : AnchoredCall) (n : ℕ) where
   pub said_8 : IsStore b → has_duplicate (answered_slots k) ≡ true → bytes_step b (anchored a k n) ≡ record { bytes = b; answer = refuse 8 }
-  said_8 e d = turned_down b (some (store_of b)) (anchored a k n) e 8 (twice (store_of b).config (store_of b).installed (lent b (anchored a k n)) a k d)
+  said_8 e d = turned_down b (Some (store_of b)) (anchored a k n) e 8 (twice (store_of b).config (store_of b).installed (lent b (anchored a k n)) a k d)
 
   module _ (d : has_duplicate (answered_slots k) ≡ false) (e : IsStore b) where
-    said_21 : (store_of b).installed ≡ none → bytes_step b (anchored a k n) ≡ record { bytes = b; answer = refuse 21 }
-    said_21 i = turned_down b (memory_of (store_of b).config none) (anchored a k n) (e ∙ ap (memory_of (store_of b).config) i) 21 (nothing_there (store_of b).config (lent b (anchored a k n)) a k d)
+    said_21 : (store_of b).installed ≡ None → bytes_step b (anchored a k n) ≡ record { bytes = b; answer = refuse 21 }
+    said_21 i = turned_down b (memory_of (store_of b).config None) (anchored a k n) (e ∙ ap (memory_of (store_of b).config) i) 21 (nothing_there (store_of b).config (lent b (anchored a k n)) a k d)
 
-    said_22 : (g : Generation) → (store_of b).installed ≡ some g → anchor_eqb g.anchor a ≡ false → bytes_step b (anchored a k n) ≡ record { bytes = b; answer = refuse 22 }
-    said_22 g i q = turned_down b (memory_of (store_of b).config (some g)) (anchored a k n) (e ∙ ap (memory_of (store_of b).config) i) 22 (other_there (store_of b).config g (lent b (anchored a k n)) a k d q)
+    said_22 : (g : Generation) → (store_of b).installed ≡ Some g → anchor_eqb g.anchor a ≡ false → bytes_step b (anchored a k n) ≡ record { bytes = b; answer = refuse 22 }
+    said_22 g i q = turned_down b (memory_of (store_of b).config (Some g)) (anchored a k n) (e ∙ ap (memory_of (store_of b).config) i) 22 (other_there (store_of b).config g (lent b (anchored a k n)) a k d q)
 
-    pub by_guard : (m : ℕ) → m ≡ anchored_refusal (store_of b).installed a → (m ≡ 0 → ⊥) → bytes_step b (anchored a k n) ≡ record { bytes = b; answer = refuse m }
-    by_guard m q z = go (store_of b).installed refl q
+    pub by_guard : (m : Refusal) → anchored_refusal (store_of b).installed a ≡ Err m → bytes_step b (anchored a k n) ≡ record { bytes = b; answer = refuse (refusal_number m) }
+    by_guard m q = go (store_of b).installed refl q
       where
-        stopped : (g : Generation) (t : Bool) → anchor_eqb g.anchor a ≡ t → m ≡ cond t 0 22 → (m ≡ 22) × (anchor_eqb g.anchor a ≡ false)
-        stopped g true u h = absurd (z h)
-        stopped g false u h = (h, u)
-
-        go : (o : Option Generation) → (store_of b).installed ≡ o → m ≡ anchored_refusal o a → bytes_step b (anchored a k n) ≡ record { bytes = b; answer = refuse m }
-        go none i h = said_21 i ∙ ap (λ (x : ℕ). record { bytes = b; answer = refuse x }) (sym h)
-        go (some g) i h = let y = stopped g (anchor_eqb g.anchor a) refl h in said_22 g i y.1 ∙ ap (λ (x : ℕ). record { bytes = b; answer = refuse x }) (sym y.0)
+        go : (o : Option Generation) → (store_of b).installed ≡ o → anchored_refusal o a ≡ Err m → bytes_step b (anchored a k n) ≡ record { bytes = b; answer = refuse (refusal_number m) }
+        go None i h =
+            let y : NothingInstalled ≡ m = cc in
+            said_21 i ∙ ap (λ (x : Refusal). record { bytes = b; answer = refuse (refusal_number x) }) y
+        go (Some g) i h =
+            let y : (m ≡ AnotherAnchor) × (anchor_eqb g.anchor a ≡ false) = stopped g a m (anchor_eqb g.anchor a) refl h in
+            said_22 g i y.1 ∙ ap (λ (x : Refusal). record { bytes = b; answer = refuse (refusal_number x) }) (sym y.0)
 
   -- An answer to slots: 8 goes before 21 and 22.
-  pub by_answer_guard : (ss : List Slot) → answered_slots k ≡ ss → IsStore b → (m : ℕ) → m ≡ answer_refusal ss (store_of b).installed a → (m ≡ 0 → ⊥) → bytes_step b (anchored a k n) ≡ record { bytes = b; answer = refuse m }
-  by_answer_guard ss f e m q z = go (has_duplicate ss) (ap has_duplicate f) q
+  pub by_answer_guard : (ss : List Slot) → answered_slots k ≡ ss → IsStore b → (m : Refusal) → answer_refusal ss (store_of b).installed a ≡ Err m → bytes_step b (anchored a k n) ≡ record { bytes = b; answer = refuse (refusal_number m) }
+  by_answer_guard ss f e m q = go (has_duplicate ss) (ap has_duplicate f) q
     where
-      go : (t : Bool) → has_duplicate (answered_slots k) ≡ t → m ≡ cond t 8 (anchored_refusal (store_of b).installed a) → bytes_step b (anchored a k n) ≡ record { bytes = b; answer = refuse m }
-      go true d h = said_8 e d ∙ ap (λ (x : ℕ). record { bytes = b; answer = refuse x }) (sym h)
-      go false d h = by_guard d e m h z
+      go : (t : Bool) → has_duplicate (answered_slots k) ≡ t → cond t (Err NamesTwice) (anchored_refusal (store_of b).installed a) ≡ Err m
+          → bytes_step b (anchored a k n) ≡ record { bytes = b; answer = refuse (refusal_number m) }
+      go true d h =
+          let y : NamesTwice ≡ m = cc in
+          said_8 e d ∙ ap (λ (x : Refusal). record { bytes = b; answer = refuse (refusal_number x) }) y
+      go false d h = by_guard d e m h
 
 -- Past an answer's guard no slot is named twice, and the anchor is installed.
-pub past_answer_guard : (ss : List Slot) (o : Option Generation) (a : ReadAnchor) (m : ℕ) → m ≡ answer_refusal ss o a → m ≡ 0 → (has_duplicate ss ≡ false) × (anchored_refusal o a ≡ 0)
-past_answer_guard ss o a m q z = go (has_duplicate ss) refl (sym q ∙ z)
+pub past_answer_guard : (ss : List Slot) (o : Option Generation) (a : ReadAnchor) (x : Unit {0}) → answer_refusal ss o a ≡ Ok x → (has_duplicate ss ≡ false) × (anchored_refusal o a ≡ Ok x)
+past_answer_guard ss o a x q = go (has_duplicate ss) refl q
   where
-    go : (t : Bool) → has_duplicate ss ≡ t → cond t 8 (anchored_refusal o a) ≡ 0 → (has_duplicate ss ≡ false) × (anchored_refusal o a ≡ 0)
-    go true e h = absurd (omega (arith, h))
+    go : (t : Bool) → has_duplicate ss ≡ t → cond t (Err NamesTwice) (anchored_refusal o a) ≡ Ok x → (has_duplicate ss ≡ false) × (anchored_refusal o a ≡ Ok x)
+    go true e h = absurd (cc)
     go false e h = (e, h)
 
 -- The anchor of a generation is itself.
-hash_same : (k : BlockHash) → hash_eqb k k ≡ true
+hash_same : (k : Option U256) → hash_eqb k k ≡ true
 unfolding u256_eqb
-hash_same Unknown = refl
-hash_same (Known x) = words_eqb_refl (u256_words x)
+hash_same None = refl
+hash_same (Some x) = words_eqb_refl (u256_words x)
 
 pub here_own : (b : List ℕ) → Installed b → Here b (generation_of b).anchor
 unfolding anchor_eqb
@@ -134,20 +139,20 @@ module _ (b : List ℕ) (a : ReadAnchor) (h : Here b a) where
   abbrev pub cfg : Config
   cfg = (store_of b).config
 
-  decoded : decode b ≡ memory_of cfg (some g)
+  decoded : decode b ≡ memory_of cfg (Some g)
   decoded = h.has.is_store ∙ ap (memory_of cfg) h.has.installs
 
   few : record_count (chain g) ≤ cfg.capacity
   few = (generation_in b h.has).facts.few_records
 
   -- 23 of a call that would leave a generation.
-  over : (k : AnchoredCall) (x : Accepted) (y : Generation) (t : Bool) → accept (memory_of cfg (some g)) (on_store (at_anchor a k)) ≡ x → x.memory ≡ memory_of cfg (some y) → ltb cfg.capacity (record_count (chain y)) ≡ t →
-      over_capacity (memory_of cfg (some g)) (on_store (at_anchor a k)) ≡ t
+  over : (k : AnchoredCall) (x : Accepted) (y : Generation) (t : Bool) → accept (memory_of cfg (Some g)) (on_store (at_anchor a k)) ≡ x → x.memory ≡ memory_of cfg (Some y) → ltb cfg.capacity (record_count (chain y)) ≡ t →
+      over_capacity (memory_of cfg (Some g)) (on_store (at_anchor a k)) ≡ t
   over k x y t p q z = over_by _ _ cfg y x p q ∙ z
 
   -- A take.
   module _ (n : ℕ) where
-    take_over : over_capacity (memory_of cfg (some g)) (on_store (at_anchor a take)) ≡ false
+    take_over : over_capacity (memory_of cfg (Some g)) (on_store (at_anchor a take)) ≡ false
     take_over = over take _ (with_reads g g.top (take_queued g.pending) g.totals) false (take_accepted cfg g a) refl (le-ltb _ _ few)
 
     pub said_27 : n < length (queued g.pending) → bytes_step b (anchored a take n) ≡ record { bytes = b; answer = refuse 27 }
@@ -165,28 +170,28 @@ module _ (b : List ℕ) (a : ReadAnchor) (h : Here b a) where
     this = bytes_step b (alone (on_store (at_anchor a (on_slot (read s)))))
 
     -- Of a served slot: 23, or the value.
-    served_table : (v : Value) (t : Bool) → resolved cfg.retention g s ≡ some v → ltb cfg.capacity (record_count (touched_top g s ∷ g.base)) ≡ t →
-        refusal (memory_of cfg (some g)) (lent b (anchored a (on_slot (read s)) 0)) (on_store (at_anchor a (on_slot (read s)))) ≡ cond t (some 23) none
+    served_table : (v : Value) (t : Bool) → resolved cfg.retention g s ≡ Some v → ltb cfg.capacity (record_count (touched_top g s ∷ g.base)) ≡ t →
+        refusal (memory_of cfg (Some g)) (lent b (anchored a (on_slot (read s)) 0)) (on_store (at_anchor a (on_slot (read s)))) ≡ cond t (Some 23) None
     served_table v t e z =
-        let o : over_capacity (memory_of cfg (some g)) (on_store (at_anchor a (on_slot (read s)))) ≡ t = over (on_slot (read s)) _ (with_reads g (touched_top g s) g.pending (count_served g.totals)) t (read_served cfg g a s v e) refl z in
+        let o : over_capacity (memory_of cfg (Some g)) (on_store (at_anchor a (on_slot (read s)))) ≡ t = over (on_slot (read s)) _ (with_reads g (touched_top g s) g.pending (count_served g.totals)) t (read_served cfg g a s v e) refl z in
         read_here cfg g (lent b (anchored a (on_slot (read s)) 0)) a s h.same ∙ rw (lt-leb 4294967295 g.totals.accepted some_left, e, o)
 
-    pub said_full : (v : Value) → resolved cfg.retention g s ≡ some v → cfg.capacity < record_count (touched_top g s ∷ g.base) → this ≡ record { bytes = b; answer = refuse 23 }
+    pub said_full : (v : Value) → resolved cfg.retention g s ≡ Some v → cfg.capacity < record_count (touched_top g s ∷ g.base) → this ≡ record { bytes = b; answer = refuse 23 }
     said_full v e z = turned_down b _ (anchored a (on_slot (read s)) 0) decoded 23 (served_table v true e (lt-ltb _ _ z))
 
-    pub said_served : (v : Value) → resolved cfg.retention g s ≡ some v → record_count (touched_top g s ∷ g.base) ≤ cfg.capacity →
+    pub said_served : (v : Value) → resolved cfg.retention g s ≡ Some v → record_count (touched_top g s ∷ g.base) ≤ cfg.capacity →
         this ≡ record { bytes = overlay (reading cfg g (touched_top g s) g.pending (count_served g.totals)) b; answer = ok (value v) }
     said_served v e z = taken_up b _ (anchored a (on_slot (read s)) 0) decoded _ (served_table v false e (le-ltb _ _ z)) (read_served cfg g a s v e)
 
     -- Of another: 24, or it waits.
-    pub said_24 : resolved cfg.retention g s ≡ none → (not (is_awaiting s g.pending) && leb 64 (length g.pending)) ≡ true → this ≡ record { bytes = b; answer = refuse 24 }
+    pub said_24 : resolved cfg.retention g s ≡ None → (not (is_awaiting s g.pending) && leb 64 (length g.pending)) ≡ true → this ≡ record { bytes = b; answer = refuse 24 }
     said_24 e w =
         turned_down b _ (anchored a (on_slot (read s)) 0) decoded 24 (read_here cfg g (lent b (anchored a (on_slot (read s)) 0)) a s h.same ∙ rw (lt-leb 4294967295 g.totals.accepted some_left, e, w))
 
-    pub said_waits : resolved cfg.retention g s ≡ none → (not (is_awaiting s g.pending) && leb 64 (length g.pending)) ≡ false →
+    pub said_waits : resolved cfg.retention g s ≡ None → (not (is_awaiting s g.pending) && leb 64 (length g.pending)) ≡ false →
         this ≡ record { bytes = overlay (reading cfg g g.top (join s g.pending) (count_waiting (is_awaiting s g.pending) g.totals)) b; answer = ok (waiting (suc (waiters_of s g.pending))) }
     said_waits e w =
-        let o : over_capacity (memory_of cfg (some g)) (on_store (at_anchor a (on_slot (read s)))) ≡ false = over (on_slot (read s)) _ (with_reads g g.top (join s g.pending) (count_waiting (is_awaiting s g.pending) g.totals)) false (read_waits cfg g a s e) refl (le-ltb _ _ few) in
+        let o : over_capacity (memory_of cfg (Some g)) (on_store (at_anchor a (on_slot (read s)))) ≡ false = over (on_slot (read s)) _ (with_reads g g.top (join s g.pending) (count_waiting (is_awaiting s g.pending) g.totals)) false (read_waits cfg g a s e) refl (le-ltb _ _ few) in
         taken_up b _ (anchored a (on_slot (read s)) 0) decoded _ (read_here cfg g (lent b (anchored a (on_slot (read s)) 0)) a s h.same ∙ rw (lt-leb 4294967295 g.totals.accepted some_left, e, w, o)) (read_waits cfg g a s e)
 
   -- An answer of either form, of distinct slots: 26, 23, or it is done.
@@ -201,7 +206,7 @@ module _ (b : List ℕ) (a : ReadAnchor) (h : Here b a) where
         that ≡ record { bytes = overlay (reading cfg g g.top (remove_all_pending ss g.pending) (count_answer (length ss) 0 (woken [] g.pending) (woken ss g.pending) g.totals)) b; answer = ok (answered (length ss) 0 (woken ss g.pending)) }
     said_failed z =
         let y : Generation = with_reads g g.top (remove_all_pending ss g.pending) (count_answer (length ss) 0 (woken [] g.pending) (woken ss g.pending) g.totals) in
-        let o : over_capacity (memory_of cfg (some g)) (on_store (at_anchor a (answer_failed ss))) ≡ false = over (answer_failed ss) _ y false (failed_accepted cfg g a ss) refl (le-ltb _ _ few) in
+        let o : over_capacity (memory_of cfg (Some g)) (on_store (at_anchor a (answer_failed ss))) ≡ false = over (answer_failed ss) _ y false (failed_accepted cfg g a ss) refl (le-ltb _ _ few) in
         taken_up b _ (anchored a (answer_failed ss) 0) decoded _ (failed_here cfg g (lent b (anchored a (answer_failed ss) 0)) a ss d h.same ∙ rw (z, o)) (failed_accepted cfg g a ss)
 
   module _ (ms : List Member) (d : has_duplicate (member_slots ms) ≡ false) where
@@ -219,11 +224,11 @@ module _ (b : List ℕ) (a : ReadAnchor) (h : Here b a) where
 
     pub answer_23 : all_taken (member_slots ms) g.pending ≡ true → cfg.capacity < record_count (settled ∷ g.base) → those ≡ record { bytes = b; answer = refuse 23 }
     answer_23 z c =
-        let o : over_capacity (memory_of cfg (some g)) (on_store (at_anchor a (answer ms))) ≡ true = over (answer ms) _ answer_totals true (answer_accepted cfg g a ms) refl (lt-ltb _ _ c) in
+        let o : over_capacity (memory_of cfg (Some g)) (on_store (at_anchor a (answer ms))) ≡ true = over (answer ms) _ answer_totals true (answer_accepted cfg g a ms) refl (lt-ltb _ _ c) in
         turned_down b _ (anchored a (answer ms) 0) decoded 23 (answer_here cfg g (lent b (anchored a (answer ms) 0)) a ms d h.same ∙ rw (z, o))
 
     pub said_answer : all_taken (member_slots ms) g.pending ≡ true → record_count (settled ∷ g.base) ≤ cfg.capacity →
         those ≡ record { bytes = overlay (reading cfg g settled (remove_all_pending (member_slots ms) g.pending) (count_answer (length (member_slots ms)) (length (refused_slots ms)) (woken (valued_slots ms) g.pending) (woken (refused_slots ms) g.pending) g.totals)) b; answer = ok (answered (length (member_slots ms)) (length (refused_slots ms)) (woken (member_slots ms) g.pending)) }
     said_answer z c =
-        let o : over_capacity (memory_of cfg (some g)) (on_store (at_anchor a (answer ms))) ≡ false = over (answer ms) _ answer_totals false (answer_accepted cfg g a ms) refl (le-ltb _ _ c) in
+        let o : over_capacity (memory_of cfg (Some g)) (on_store (at_anchor a (answer ms))) ≡ false = over (answer ms) _ answer_totals false (answer_accepted cfg g a ms) refl (le-ltb _ _ c) in
         taken_up b _ (anchored a (answer ms) 0) decoded _ (answer_here cfg g (lent b (anchored a (answer ms) 0)) a ms d h.same ∙ rw (z, o)) (answer_accepted cfg g a ms)

@@ -1,9 +1,7 @@
 // The calls read, take, answer and answer_failed on bytes that are known to be a store.
-#![tactic(auto)]
+#![tactic(auto, using(layers::proofs::Header::header_room))]
 
-ghost use Rattle.std.specs.Prelude.{◌≡◌, true, false, not, ◌&&◌, leb, ◌∷◌, ◌+◌, ◌*◌, ◌≤◌, length};
-ghost use Rattle.std.proofs.Math.Option.{some, none};
-ghost use Rattle.model.specs.Contents.{is_some};
+ghost use Rattle.std.specs.Prelude.{◌≡◌, true, false, not, ◌&&◌, leb, ◌∷◌, ◌+◌, ◌*◌, ◌≤◌, length, None, Some, is_some};
 ghost use Rattle.model.specs.Layers.{record_count};
 ghost use Rattle.model.specs.Reads as reads;
 ghost use Rattle.model.specs.Store as calls;
@@ -16,10 +14,11 @@ ghost use Rattle.awaiting.specs.Awaiting.{Lists, entry_slots};
 ghost use Rattle.replies.specs.Replies.{read_reply, answer_reply, alone, with_output, Stepped, Took};
 ghost use Rattle.unchecked_reads.specs.Inner.{awaited, Open, answer_refusal};
 
-use model::delta_snapshot::{Held, Slot};
+use model::delta_snapshot::Slot;
+use model::refusal::Refusal;
 use model::storage_memo::{ReadAnchor, U256};
 use records::Found;
-use replies::{AnswerReply, ReadReply, TakeReply};
+use replies::{AnswerReply, Answered, ReadOutcome, ReadReply, TakeReply};
 
 // The number of awaiting slots.
 fn awaiting_count(s: &[u8]) -> usize
@@ -68,21 +67,21 @@ fn waiters(s: &[u8], slot: Slot) -> u64
 }
 
 // Whether every slot of a lent list is taken.
-fn all_taken(s: &[u8], list: &[u8], stride: usize) -> bool
-    requires { HasGeneration s.now × (52 ≤ stride) }
-    ensures { result ≡ reads.all_taken (entry_slots stride list.now) (generation_of s.now).pending }
+fn all_taken<const STRIDE: usize>(s: &[u8], list: &[u8]) -> bool
+    requires { HasGeneration s.now × (52 ≤ STRIDE) }
+    ensures { result ≡ reads.all_taken (entry_slots STRIDE list.now) (generation_of s.now).pending }
 {
     let n = awaiting_count(s);
-    awaiting::all_taken(&s[layout::AWAITING_OFFSET..], n, list, stride)
+    awaiting::all_taken::<STRIDE>(&s[layout::AWAITING_OFFSET..], n, list)
 }
 
 // The waiters that an answer to the slots of a lent list wakes.
-fn woken(s: &[u8], list: &[u8], stride: usize) -> u64
-    requires { HasGeneration s.now × (52 ≤ stride) × (reads.has_duplicate (entry_slots stride list.now) ≡ false) }
-    ensures { result ≡ reads.woken (entry_slots stride list.now) (generation_of s.now).pending }
+fn woken<const STRIDE: usize>(s: &[u8], list: &[u8]) -> u64
+    requires { HasGeneration s.now × (52 ≤ STRIDE) × (reads.has_duplicate (entry_slots STRIDE list.now) ≡ false) }
+    ensures { result ≡ reads.woken (entry_slots STRIDE list.now) (generation_of s.now).pending }
 {
     let n = awaiting_count(s);
-    awaiting::woken(&s[layout::AWAITING_OFFSET..], n, list, stride)
+    awaiting::woken::<STRIDE>(&s[layout::AWAITING_OFFSET..], n, list)
 }
 
 // The waiters that the members of a lent answer wake with a value.
@@ -105,12 +104,12 @@ fn join(s: &mut [u8], slot: Slot)
 }
 
 // Takes the slots of a lent list out of the awaiting ones.
-fn remove_all(s: &mut [u8], list: &[u8], stride: usize)
-    requires { HasGeneration s.old × (52 ≤ stride) }
-    ensures { s.new ≡ overlay (awaited (store_of s.old).config (generation_of s.old) (reads.remove_all_pending (entry_slots stride list.now) (generation_of s.old).pending)) s.old }
+fn remove_all<const STRIDE: usize>(s: &mut [u8], list: &[u8])
+    requires { HasGeneration s.old × (52 ≤ STRIDE) }
+    ensures { s.new ≡ overlay (awaited (store_of s.old).config (generation_of s.old) (reads.remove_all_pending (entry_slots STRIDE list.now) (generation_of s.old).pending)) s.old }
 {
     let n = awaiting_count(s);
-    let count = awaiting::remove_all(&mut s[layout::AWAITING_OFFSET..], n, list, stride);
+    let count = awaiting::remove_all::<STRIDE>(&mut s[layout::AWAITING_OFFSET..], n, list);
     words::write_u64(s, layout::AWAITING_COUNT_OFFSET, count as u64);
 }
 
@@ -128,42 +127,39 @@ pub fn take(s: &mut [u8], anchor: ReadAnchor, out: &mut [u8]) -> TakeReply
     requires { is_some (decode s.old) ≡ true }
     ensures { Took result s.new out.new out.old (bytes_step s.old (with_output (on_store (at_anchor anchor calls.take)) out.old)) }
 {
-    let n = header::guard(s, anchor);
-    if n != 0 {
-        return TakeReply::Refused(n);
-    }
+    header::guard(s, anchor)?;
     if out.len() / 52 < queue_len(s) {
-        return TakeReply::Refused(27);
+        return Err(Refusal::OutputTooShort);
     }
-    TakeReply::Listed(take_queued(s, out) as u64)
+    Ok(take_queued(s, out) as u64)
 }
 
 // A read of a served slot, whose record in the top stands or goes at `place`: its own use is set, and the read is counted.
 fn serve(s: &mut [u8], place: Found, slot: Slot, v: U256) -> ReadReply
-    requires { Open s.old × (resolved (store_of s.old).config.retention (generation_of s.old) slot ≡ some v) × (place ≡ place_in slot (generation_of s.old).top) }
+    requires { Open s.old × (resolved (store_of s.old).config.retention (generation_of s.old) slot ≡ Some v) × (place ≡ place_in slot (generation_of s.old).top) }
     ensures { Stepped (read_reply result) s.new (bytes_step s.old (alone (on_store (at_anchor (generation_of s.old).anchor (on_slot (calls.read slot)))))) }
 {
     if !top::has_room(s, place) {
-        return ReadReply::Refused(23);
+        return Err(Refusal::OverCapacity);
     }
     top::touch_top(s, place, slot);
     totals::record_read(s, true, false);
-    ReadReply::Value(v)
+    Ok(ReadOutcome::Value(v))
 }
 
 // A read of another slot: it awaits an answer, and the read is counted.
 fn wait(s: &mut [u8], slot: Slot) -> ReadReply
-    requires { Open s.old × (resolved (store_of s.old).config.retention (generation_of s.old) slot ≡ none) }
+    requires { Open s.old × (resolved (store_of s.old).config.retention (generation_of s.old) slot ≡ None) }
     ensures { Stepped (read_reply result) s.new (bytes_step s.old (alone (on_store (at_anchor (generation_of s.old).anchor (on_slot (calls.read slot)))))) }
 {
     if queue_full(s, slot) {
-        return ReadReply::Refused(24);
+        return Err(Refusal::QueueFull);
     }
     let joined = is_awaiting(s, slot);
     let w = waiters(s, slot);
     join(s, slot);
     totals::record_read(s, false, joined);
-    ReadReply::Waiting(w + 1)
+    Ok(ReadOutcome::Waiting(w + 1))
 }
 
 // A read: the value of a served slot, else the slot awaits an answer.
@@ -171,27 +167,28 @@ pub fn read(s: &mut [u8], anchor: ReadAnchor, slot: Slot) -> ReadReply
     requires { is_some (decode s.old) ≡ true }
     ensures { Stepped (read_reply result) s.new (bytes_step s.old (alone (on_store (at_anchor anchor (on_slot (calls.read slot)))))) }
 {
-    let n = header::guard(s, anchor);
-    if n != 0 {
-        return ReadReply::Refused(n);
-    }
+    header::guard(s, anchor)?;
     if 4294967295 <= words::read_u64(s, layout::ACCEPTED_OFFSET) {
-        return ReadReply::Refused(25);
+        return Err(Refusal::ReadsExhausted);
     }
     let place = layers::top_place(s, slot);
-    let Held::Value(v) = layers::resolved_at(s, place, slot) else {
+    let Some(v) = layers::resolved_at(s, place, slot) else {
         return wait(s, slot);
     };
     serve(s, place, slot, v)
 }
 
-// The refusal of an answer to the slots of a lent list at an anchor: 8, 21, 22 or, if there is none, 0.
-fn guard_answer(s: &[u8], anchor: ReadAnchor, list: &[u8], stride: usize) -> u64
-    requires { IsStore s.now × (52 ≤ stride) }
-    ensures { result ≡ answer_refusal (entry_slots stride list.now) (store_of s.now).installed anchor }
+// The refusal of an answer to the slots of a lent list at an anchor.
+fn guard_answer<const STRIDE: usize>(
+    s: &[u8],
+    anchor: ReadAnchor,
+    list: &[u8],
+) -> Result<(), Refusal>
+    requires { IsStore s.now × (52 ≤ STRIDE) }
+    ensures { result ≡ answer_refusal (entry_slots STRIDE list.now) (store_of s.now).installed anchor }
 {
-    if awaiting::has_duplicate(list, stride) {
-        return 8;
+    if awaiting::has_duplicate::<STRIDE>(list) {
+        return Err(Refusal::NamesTwice);
     }
     header::guard(s, anchor)
 }
@@ -201,22 +198,19 @@ pub fn answer_failed(s: &mut [u8], anchor: ReadAnchor, slots: &[u8]) -> AnswerRe
     requires { is_some (decode s.old) ≡ true }
     ensures { Stepped (answer_reply result) s.new (bytes_step s.old (alone (on_store (at_anchor anchor (calls.answer_failed (slots_of slots.now)))))) }
 {
-    let n = guard_answer(s, anchor, slots, 52);
-    if n != 0 {
-        return AnswerReply::Refused(n);
-    }
-    if !all_taken(s, slots, 52) {
-        return AnswerReply::Refused(26);
+    guard_answer::<52>(s, anchor, slots)?;
+    if !all_taken::<52>(s, slots) {
+        return Err(Refusal::NotTaken);
     }
     let members = (slots.len() / 52) as u64;
-    let w = woken(s, slots, 52);
-    remove_all(s, slots, 52);
+    let w = woken::<52>(s, slots);
+    remove_all::<52>(s, slots);
     totals::record_answer(s, members, 0, 0, w);
-    AnswerReply::Answered {
+    Ok(Answered {
         members,
         errors: 0,
         woken: w,
-    }
+    })
 }
 
 // Whether there is room for the records that the values of a lent answer add.
@@ -236,16 +230,16 @@ fn finish(s: &mut [u8], list: &[u8]) -> AnswerReply
 {
     let members = (list.len() / 85) as u64;
     let errors = awaiting::refused_members(list) as u64;
-    let w = woken(s, list, 85);
+    let w = woken::<85>(s, list);
     let valued = woken_valued(s, list);
     settling::settle_members(s, list);
-    remove_all(s, list, 85);
+    remove_all::<85>(s, list);
     totals::record_answer(s, members, errors, valued, w - valued);
-    AnswerReply::Answered {
+    Ok(Answered {
         members,
         errors,
         woken: w,
-    }
+    })
 }
 
 // An answer: a value wakes its slot's waiters and is put, a refusal wakes them with it.
@@ -253,15 +247,12 @@ pub fn answer(s: &mut [u8], anchor: ReadAnchor, members: &[u8]) -> AnswerReply
     requires { is_some (decode s.old) ≡ true }
     ensures { Stepped (answer_reply result) s.new (bytes_step s.old (alone (on_store (at_anchor anchor (calls.answer (members_of members.now)))))) }
 {
-    let n = guard_answer(s, anchor, members, 85);
-    if n != 0 {
-        return AnswerReply::Refused(n);
-    }
-    if !all_taken(s, members, 85) {
-        return AnswerReply::Refused(26);
+    guard_answer::<85>(s, anchor, members)?;
+    if !all_taken::<85>(s, members) {
+        return Err(Refusal::NotTaken);
     }
     if !has_space(s, members) {
-        return AnswerReply::Refused(23);
+        return Err(Refusal::OverCapacity);
     }
     finish(s, members)
 }

@@ -1,10 +1,9 @@
 -- The laws of moving and placing bytes. Assumes nothing.
 use mathlib.Core.Path.{◌≡◌, sym, ap, ap₂, ◌∙◌}
-use mathlib.Core.List.{List, [], ◌∷◌, ◌++◌, append_assoc, append-nil}
+use mathlib.Core.List.{List, [], ◌∷◌, ◌++◌, append_assoc}
 use Prim.Native.Nat.{ℕ, suc, ◌+◌, ◌≤◌, ◌<◌, ◌-◌}
-use native.Mathlib.Nat.{add-zero, sub_self, sub-zero}
 use native.Mathlib.Omega.{arith}
-use lib.ListN.{length, take, drop, get_or, set, length-append, take-append-drop, get_or-append}
+use lib.ListN.{length, take, drop, get_or, set, length-append, get_or-append}
 use lib.Seq.{take-set-lt, take-suc-set, set-append_left, append_snoc, drop-cons, get_or-take, length-take-le, drop_at, take-append-le, take-take}
 use Rattle.words.specs.Parts.{part, placed}
 use Rattle.words.specs.Moved.{moved}
@@ -12,12 +11,6 @@ use Rattle.words.specs.Moved.{moved}
 -- the move half way: the bytes from place k of the run on have been moved
 abbrev pub moving : ℕ → ℕ → ℕ → List ℕ → ℕ → List ℕ
 moving at len by s k = take (at + by + k) s ++ part (at + k) (len - k) s ++ drop (at + by + len) s
-
-pub moving_start : (at len by : ℕ) (s : List ℕ) → s ≡ moving at len by s len
-moving_start at len by s = rw (sub_self, append-nil, take-append-drop)
-
-pub moving_done : (at len by : ℕ) (s : List ℕ) → moving at len by s 0 ≡ moved at len by s
-moving_done at len by s = rw (add-zero (at + by), add-zero at, sub-zero)
 
 module _ (at len by : ℕ) (s : List ℕ) (j : ℕ) (h : j < len) (fits : at + by + len ≤ length s) where
   moving_read : get_or (moving at len by s (j + 1)) (at + j) 0 ≡ get_or s (at + j) 0

@@ -1,15 +1,11 @@
--- Bytes moved down, and copied whole.
+-- Bytes moved down.
 use Prim.Native.Nat.{ℕ, ◌+◌, ◌-◌, ◌≤◌, ◌<◌}
 use mathlib.Core.Path.{◌≡◌, sym, ap, ◌∙◌}
-use mathlib.Core.List.{List, ◌++◌}
+use mathlib.Core.List.{List}
 use native.Mathlib.Omega.{arith}
-use lib.ListN.{length, take, drop, get_or, length-drop}
-use lib.Seq.{paste, drop-paste, get_or-drop, get_or-take, take-length, length-take-le}
-use Rattle.words.specs.Parts.{part, placed}
-
--- A copy of all of r.
-pub pasted : (s : List ℕ) (at : ℕ) (r : List ℕ) (j : ℕ) → j ≡ length r → paste s at r j ≡ placed at r s
-pasted s at r j e = ap (paste s at r) e ∙ ap (λ (x : List ℕ). take at s ++ x ++ drop (at + length r) s) (take-length r)
+use lib.ListN.{length, drop, get_or, length-drop}
+use lib.Seq.{paste, drop-paste, get_or-drop, get_or-take, length-take-le}
+use Rattle.words.specs.Parts.{part}
 
 -- What a move down reads has not been written yet.
 pub moved_read : (s : List ℕ) (at by n j : ℕ) → j < n → at + by + n ≤ length s

@@ -1,14 +1,18 @@
 -- A field of a record written where it lies is the record replaced by one with that field. Assumes nothing.
-use mathlib.Core.Path.{◌≡◌, sym, ap, ap₂, subst, ◌∙◌}
+use mathlib.Core.Path.{◌≡◌, sym, ap, ap₂, ◌∙◌}
 use mathlib.Core.List.{List, ◌++◌, append_assoc}
 use Prim.Native.Nat.{ℕ, suc, ◌+◌, ◌*◌, ◌/◌, ◌≤◌, ◌<◌, ◌-◌}
 use native.Mathlib.Nat.{suc-mul, div-mul-le_self, mul-le-mul_right}
 use native.Mathlib.Omega.{arith}
 use lib.ListN.{length, take, drop, length-append, length-take, length-drop, take-append-drop}
 use lib.Seq.{take-add, take-take, drop-drop, drop-append-le, length-take-le}
+use borrow.Rule.Slice.PartMut.{put_mid}
+use Rattle.std.specs.Int.{bytes_high_first}
+use Rattle.std.proofs.lemmas.Grind.{common_steps}
 use Rattle.model.specs.Numbers.{be}
+use Rattle.model.proofs.NumberLaws.{length_be}
 use Rattle.words.specs.Parts.{part, placed}
-use Rattle.words.proofs.Numbers.{be8, be8_is}
+use Rattle.words.proofs.Numbers.{bytes_are}
 
 pub placed_length : (at : ℕ) (v s : List ℕ) → at + length v ≤ length s → length (placed at v s) ≡ length s
 placed_length at v s h = simp (length-append, length-take, length-drop) (omega arith)
@@ -29,9 +33,12 @@ placed_field b o w v s h k =
     let mid : take b s ++ take o p ++ v ++ (drop (o + length v) p ++ d) ≡ take b s ++ placed o v p ++ d = simp append_assoc in
     left ∙ mid ∙ ap (λ (i : ℕ). take b s ++ placed o v p ++ drop (b + i) s) (sym q)
 
--- Eight bytes written one by one are the number's bytes placed.
-pub placed_be8 : (at x : ℕ) (s t : List ℕ) → t ≡ take at s ++ be8 x ++ drop (at + 8) s → t ≡ placed at (be 8 x) s
-placed_be8 at x s t e = subst (λ (v : List ℕ). t ≡ placed at v s) (be8_is x) e
+-- The bytes that `to_be_bytes` gives, copied to a part of a slice.
+pub placed_bytes : (at n x : ℕ) (s t : List ℕ) → t ≡ bytes_high_first n x → put_mid at (at + n - at) s t ≡ placed at (be n x) s
+placed_bytes at n x s t e =
+    let u : t ≡ be n x = e ∙ bytes_are n x in
+    let l : length (be n x) ≡ n = length_be n x in
+    grind (arith, common_steps)
 
 -- An entry of w bytes lies within the bytes that hold it.
 pub entry_fits : (w k n : ℕ) → k < n / w → k * w + w ≤ n

@@ -4,8 +4,8 @@ use Rattle.image.specs.Area.{pending_of}
 use Rattle.awaiting.proofs.Places.{found, not_among}
 use Rattle.awaiting.proofs.is_awaiting.Goals as goal
 
-pub returns-in-At : goal.returns-in-At
-returns-in-At c = sym (found (pending_of c.args.n c.args.s.now) c.args.slot _ (sym c.find.ensures ∙ c.in-At.is)).awaits
+pub returns-in-Ok : goal.returns-in-Ok
+returns-in-Ok c = sym (found (pending_of c.args.n c.args.s.now) c.args.slot _ (sym c.find.ensures ∙ c.in-Ok.is)).awaits
 
-pub returns-in-Absent : goal.returns-in-Absent
-returns-in-Absent c = sym (not_among (pending_of c.args.n c.args.s.now) c.args.slot _ c.requires.ok (sym c.find.ensures ∙ c.in-Absent.is)).not_awaiting
+pub returns-in-Err : goal.returns-in-Err
+returns-in-Err c = sym (not_among (pending_of c.args.n c.args.s.now) c.args.slot _ c.requires.ok (sym c.find.ensures ∙ c.in-Err.is)).not_awaiting

@@ -14,15 +14,15 @@ returns-in_default c = sym (not_among (pending_of c.args.n c.args.s.now) c.args.
 
 pub taken_at-requires : goal.taken_at-requires
 taken_at-requires c =
-    let seen : FoundAt c.args.slot (pending_of c.args.n c.args.s.now) c.in-At.i = found (pending_of c.args.n c.args.s.now) c.args.slot c.in-At.i (sym c.find.ensures ∙ search rules) in
+    let seen : FoundAt c.args.slot (pending_of c.args.n c.args.s.now) c.in-Ok.i = found (pending_of c.args.n c.args.s.now) c.args.slot c.in-Ok.i (sym c.find.ensures ∙ search rules) in
     let f = seen in
     let l = length_pending_of c.args.n c.args.s.now in
     omega arith
 
 pub returns : goal.returns
 returns c =
-    let seen : FoundAt c.args.slot (pending_of c.args.n c.args.s.now) c.in-At.i = found (pending_of c.args.n c.args.s.now) c.args.slot c.in-At.i (sym c.find.ensures ∙ search rules) in
-    let i = c.in-At.i in
+    let seen : FoundAt c.args.slot (pending_of c.args.n c.args.s.now) c.in-Ok.i = found (pending_of c.args.n c.args.s.now) c.args.slot c.in-Ok.i (sym c.find.ensures ∙ search rules) in
+    let i = c.in-Ok.i in
     let f = seen in
     let h : i < c.args.n = omega (arith, length_pending_of c.args.n c.args.s.now, f.inside) in
     c.taken_at.ensures ∙ ap (λ (w : Pending). w.taken) (sym (pending_is c.args.n i c.args.s.now h)) ∙ sym f.taken_is

@@ -17,15 +17,15 @@ returns-in_default c = removed_absent c.args.n c.args.slot c.args.s.now c.requir
 
 pub remove_at-requires : goal.remove_at-requires
 remove_at-requires c =
-    let seen : FoundAt c.args.slot (pending_of c.args.n c.args.s.now) c.in-At.i = found (pending_of c.args.n c.args.s.now) c.args.slot c.in-At.i (sym c.find.ensures ∙ search rules) in
+    let seen : FoundAt c.args.slot (pending_of c.args.n c.args.s.now) c.in-Ok.i = found (pending_of c.args.n c.args.s.now) c.args.slot c.in-Ok.i (sym c.find.ensures ∙ search rules) in
     (omega (arith, seen.inside, length_pending_of c.args.n c.args.s.now), omega (arith, c.requires.few, c.requires.area))
 
 pub overflow_sub-result : goal.overflow_sub-result
 overflow_sub-result c =
-    let seen : FoundAt c.args.slot (pending_of c.args.n c.args.s.now) c.in-At.i = found (pending_of c.args.n c.args.s.now) c.args.slot c.in-At.i (sym c.find.ensures ∙ search rules) in
+    let seen : FoundAt c.args.slot (pending_of c.args.n c.args.s.now) c.in-Ok.i = found (pending_of c.args.n c.args.s.now) c.args.slot c.in-Ok.i (sym c.find.ensures ∙ search rules) in
     omega (arith, seen.inside, length_pending_of c.args.n c.args.s.now)
 
 pub returns : goal.returns
 returns c =
-    let seen : FoundAt c.args.slot (pending_of c.args.n c.args.s.now) c.in-At.i = found (pending_of c.args.n c.args.s.now) c.args.slot c.in-At.i (sym c.find.ensures ∙ search rules) in
-    removed_found c.args.n c.in-At.i c.args.slot c.args.s.now c.requires seen c.remove_at.ensures
+    let seen : FoundAt c.args.slot (pending_of c.args.n c.args.s.now) c.in-Ok.i = found (pending_of c.args.n c.args.s.now) c.args.slot c.in-Ok.i (sym c.find.ensures ∙ search rules) in
+    removed_found c.args.n c.in-Ok.i c.args.slot c.args.s.now c.requires seen c.remove_at.ensures

@@ -1,15 +1,14 @@
--- The loop of `awaiting::remove_all`: what it keeps, and its measure.
+-- The loop of `awaiting::remove_all`: what it keeps.
 use mathlib.Core.Path.{◌≡◌}
-use Prim.Native.Nat.{◌≤◌, ◌-◌}
-use lib.ListN.{length, drop}
+use Prim.Native.Nat.{◌≤◌}
+use Rattle.std.specs.Slice.Iter.{chunks_exact_rest, chunks_exact_size}
 use Rattle.model.specs.Reads.{remove_all_pending}
 use Rattle.image.specs.Area.{pending_of, with_pending}
 use Rattle.awaiting.specs.Awaiting.{Ready, entry_slots}
 use Rattle.awaiting.proofs.remove_all.Given as goal
 
-abbrev pub invariant-loop-at : goal.invariant-loop-at
-invariant-loop-at l = (l.at ≤ length l.list) × (l.k ≤ l.n) × (length l.s ≡ length l.initial.s) × Ready l.k l.s × (with_pending l.n (pending_of l.k l.s) l.initial.s ≡ l.s)
-    × (remove_all_pending (entry_slots l.stride (drop l.at l.list)) (pending_of l.k l.s) ≡ remove_all_pending (entry_slots l.stride l.list) (pending_of l.n l.initial.s))
-
-abbrev pub decreases-loop-at : goal.decreases-loop-at
-decreases-loop-at l = length l.list - l.at
+abbrev pub invariant-loop-entry : goal.invariant-loop-entry
+invariant-loop-entry g l =
+    let w = g.row.STRIDE in
+    (chunks_exact_size l.entry-iterator ≡ w) × (l.k ≤ l.n) × Ready l.k l.s × (with_pending l.n (pending_of l.k l.s) l.initial.s ≡ l.s)
+    × (remove_all_pending (entry_slots w (chunks_exact_rest l.entry-iterator)) (pending_of l.k l.s) ≡ remove_all_pending (entry_slots w l.list) (pending_of l.n l.initial.s))

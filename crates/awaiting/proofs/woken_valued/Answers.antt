@@ -1,35 +1,32 @@
 -- `awaiting::woken_valued` meets its contract.
-use Rattle.awaiting.proofs.Stored.{rising_of}
 use borrow.Author.Rules.{rules}
+use borrow.Author.Tests.{tests}
 use native.Mathlib.Omega.{arith}
-use mathlib.Core.Path.{◌≡◌}
-use Prim.Native.Nat.{◌+◌}
-use lib.ListN.{drop}
-use Rattle.model.specs.Reads.{woken, valued_slots}
+use mathlib.Core.Bool.{not}
+use mathlib.Core.Path.{◌∙◌}
 use Rattle.image.specs.Area.{pending_of}
-use Rattle.model.specs.Entries.{members_of}
-use Rattle.awaiting.proofs.Lists.{valued_first, valued_end, valued_fits}
+use Rattle.std.proofs.lemmas.Iterator.{YieldsList-from_map}
+use Rattle.std.proofs.lemmas.Iterator.Consumers.{YieldsList-at, YieldsList-from_filter, sum_by_from_yields_List, fits_by_from_yields_list}
+use Rattle.entries.proofs.Chunks.{YieldsList-from_chunks}
+use Rattle.awaiting.proofs.Lists.{is_refused, waiters_at, sum_valued, valued_fits}
 use Rattle.awaiting.proofs.woken_valued.Goals as goal
 
-pub valued_at-sum-requires : goal.valued_at-sum-requires
-valued_at-sum-requires c = (rising_of c.args.n c.args.s.now c.requires.0, omega arith)
-
-pub overflow_add-sum : goal.overflow_add-sum
-overflow_add-sum c =
-    let worth : let a = c.args in let q = pending_of a.n a.s.now in
-    c.loop-at.sum + c.valued_at-sum.result + woken (valued_slots (members_of (drop (c.loop-at.at + 85) a.list.now))) q ≡ woken (valued_slots (members_of a.list.now)) q = let a = c.args in
-    omega (arith, c.valued_at-sum.ensures, c.loop-at.invariant.1, valued_first c.loop-at.at a.list.now (pending_of a.n a.s.now) (omega arith)) in
-    let q = pending_of c.args.n c.args.s.now in
-    omega (arith, worth, valued_fits c.args.list.now q c.requires.1, c.requires.0.waiters_fit)
-
-pub loop-at-preserved : goal.loop-at-preserved
-loop-at-preserved c =
-    let worth : let a = c.args in let q = pending_of a.n a.s.now in
-    c.loop-at.sum + c.valued_at-sum.result + woken (valued_slots (members_of (drop (c.loop-at.at + 85) a.list.now))) q ≡ woken (valued_slots (members_of a.list.now)) q = let a = c.args in
-    omega (arith, c.valued_at-sum.ensures, c.loop-at.invariant.1, valued_first c.loop-at.at a.list.now (pending_of a.n a.s.now) (omega arith)) in
-    (search rules, worth)
+pub sum-requires-clause-fits : goal.sum-requires-clause-fits
+sum-requires-clause-fits c =
+    let a = c.args in
+    let q = pending_of a.n a.s.now in
+    fits_by_from_yields_list (waiters_at q) _ _ _
+    (YieldsList-from_map _ (waiters_at q) (YieldsList-at c.map.ensures.source
+    (YieldsList-from_filter _ (λ m. not (is_refused m)) (YieldsList-at c.filter.ensures.source (YieldsList-from_chunks 85 a.list.now (omega arith) c.chunks_exact.ensures.size c.chunks_exact.ensures.rest)) c.filter.ensures.closure (λ x b p k. search (rules, tests))))
+    c.map.ensures.closure (λ x r p k. search (rules, tests)))
+    (omega (arith, sum_valued q a.list.now, valued_fits a.list.now q c.requires.1, c.requires.0.waiters_fit))
 
 pub returns : goal.returns
 returns c =
     let a = c.args in
-    omega (arith, valued_end c.loop-at.at a.list.now (pending_of a.n a.s.now) (omega arith), c.loop-at.invariant.1)
+    let q = pending_of a.n a.s.now in
+    sum_by_from_yields_List (waiters_at q) _ _ _ c.sum.ensures.ran
+    (YieldsList-from_map _ (waiters_at q) (YieldsList-at c.map.ensures.source
+    (YieldsList-from_filter _ (λ m. not (is_refused m)) (YieldsList-at c.filter.ensures.source (YieldsList-from_chunks 85 a.list.now (omega arith) c.chunks_exact.ensures.size c.chunks_exact.ensures.rest)) c.filter.ensures.closure (λ x b p k. search (rules, tests))))
+    c.map.ensures.closure (λ x r p k. search (rules, tests)))
+    ∙ sum_valued q a.list.now

@@ -1,14 +1,7 @@
--- The loop of `bal_accounts::seed_from_accounts`: what it keeps, and its measure.
-use mathlib.Core.Path.{◌≡◌}
-use Prim.Native.Nat.{◌-◌, ◌/◌, ◌≤◌}
-use lib.ListN.{length}
+-- The loop of `bal_accounts::seed_from_accounts`: what it keeps.
 use Rattle.bal_plan.specs.Plan.{plan_of, limit_of}
 use Rattle.bal_accounts.specs.Walking.{start, AccountsSeeded}
 use Rattle.bal_accounts.proofs.seed_from_accounts.Given as goal
 
 abbrev pub invariant-loop-i : goal.invariant-loop-i
-invariant-loop-i l = (l.i ≤ l.n) × (l.n ≡ length l.accounts / 36) × (length l.writes_out ≡ length l.initial.writes_out) × (length l.reads_out ≡ length l.initial.reads_out)
-    × AccountsSeeded (plan_of l.plan_addresses l.max_writes l.max_reads) l.accounts l.slots l.changes l.reads (limit_of l.max_writes) (limit_of l.max_reads) 0 l.i start l.initial.writes_out l.initial.reads_out l.w l.writes_out l.reads_out
-
-abbrev pub decreases-loop-i : goal.decreases-loop-i
-decreases-loop-i l = l.n - l.i
+invariant-loop-i l = AccountsSeeded (plan_of l.plan_addresses l.max_writes l.max_reads) l.accounts l.slots l.changes l.reads (limit_of l.max_writes) (limit_of l.max_reads) 0 l.i start l.initial.writes_out l.initial.reads_out l.w l.writes_out l.reads_out

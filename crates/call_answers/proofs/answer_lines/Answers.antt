@@ -1,5 +1,4 @@
 -- `call_answers::answer_lines` meets its contract. Assumes nothing.
-use borrow.Author.Rules.{rules}
 use Prim.Native.Nat.{ℕ, ◌+◌, ◌*◌, ◌≤◌}
 use mathlib.Core.Path.{◌≡◌, sym, ap}
 use mathlib.Core.List.{List}
@@ -7,8 +6,8 @@ use native.Mathlib.Omega.{arith}
 use lib.ListN.{length}
 use Rattle.digits.proofs.Writing.{written_as}
 use Rattle.digits.specs.Written.{Written}
+use Rattle.call_list.specs.Listing.{ascii, decimals}
 use Rattle.call_answers.specs.declared.CallAnswer.{CallAnswer}
-use Rattle.call_answers.specs.declared.CallAnswer.TheVariants as answer
 use Rattle.call_answers.specs.Answers.{slots_listed, lines_of}
 use Rattle.call_answers.proofs.Lines.{lines_length}
 use Rattle.call_answers.proofs.answer_lines.Goals as goal
@@ -22,107 +21,63 @@ module _ {a r : CallAnswer} (b : List ℕ) (e : a ≡ r) where
   found w = written_as w (ap (λ (x : CallAnswer). lines_of x b) (sym e))
 
 pub refusal_line-requires : goal.refusal_line-requires
-refusal_line-requires c =
-    let e : c.args.a ≡ answer.Refused c.in-Refused.n = search rules in
-    room c.args.entries.now e c.args.at (length c.args.out.now) c.requires.1
+refusal_line-requires c = room c.args.entries.now c.in-Refused.is c.args.at (length c.args.out.now) c.requires.1
 
-pub open_line-requires : goal.open_line-requires
-open_line-requires c =
-    let e : c.args.a ≡ answer.Open = search rules in
-    room c.args.entries.now e c.args.at (length c.args.out.now) c.requires.1
+pub word_line-requires : goal.word_line-requires
+unfolding ascii decimals
+word_line-requires c = room c.args.entries.now c.in-Open.is c.args.at (length c.args.out.now) c.requires.1
 
-pub anchor_same_line-requires : goal.anchor_same_line-requires
-anchor_same_line-requires c =
-    let e : c.args.a ≡ answer.AnchorSame = search rules in
-    room c.args.entries.now e c.args.at (length c.args.out.now) c.requires.1
+pub word_line-requires-in-AnchorSame : goal.word_line-requires-in-AnchorSame
+unfolding ascii decimals
+word_line-requires-in-AnchorSame c = room c.args.entries.now c.in-AnchorSame.is c.args.at (length c.args.out.now) c.requires.1
 
-pub anchor_fresh_line-requires : goal.anchor_fresh_line-requires
-anchor_fresh_line-requires c =
-    let e : c.args.a ≡ answer.AnchorFresh = search rules in
-    room c.args.entries.now e c.args.at (length c.args.out.now) c.requires.1
+pub word_line-requires-in-AnchorFresh : goal.word_line-requires-in-AnchorFresh
+unfolding ascii decimals
+word_line-requires-in-AnchorFresh c = room c.args.entries.now c.in-AnchorFresh.is c.args.at (length c.args.out.now) c.requires.1
 
 pub value_line-requires : goal.value_line-requires
-value_line-requires c =
-    let e : c.args.a ≡ answer.Value c.in-Value.v = search rules in
-    room c.args.entries.now e c.args.at (length c.args.out.now) c.requires.1
+value_line-requires c = room c.args.entries.now c.in-Value.is c.args.at (length c.args.out.now) c.requires.1
 
-pub none_line-requires : goal.none_line-requires
-none_line-requires c =
-    let e : c.args.a ≡ answer.Nothing = search rules in
-    room c.args.entries.now e c.args.at (length c.args.out.now) c.requires.1
+pub word_line-requires-in-Nothing : goal.word_line-requires-in-Nothing
+unfolding ascii decimals
+word_line-requires-in-Nothing c = room c.args.entries.now c.in-Nothing.is c.args.at (length c.args.out.now) c.requires.1
 
-pub put_line-requires : goal.put_line-requires
-put_line-requires c =
-    let e : c.args.a ≡ answer.Put = search rules in
-    room c.args.entries.now e c.args.at (length c.args.out.now) c.requires.1
+pub word_line-requires-in-Put : goal.word_line-requires-in-Put
+unfolding ascii decimals
+word_line-requires-in-Put c = room c.args.entries.now c.in-Put.is c.args.at (length c.args.out.now) c.requires.1
 
-pub wait_line-requires : goal.wait_line-requires
-wait_line-requires c =
-    let e : c.args.a ≡ answer.Wait c.in-Wait.n = search rules in
-    room c.args.entries.now e c.args.at (length c.args.out.now) c.requires.1
+pub word_line-requires-in-Wait : goal.word_line-requires-in-Wait
+unfolding ascii decimals
+word_line-requires-in-Wait c = room c.args.entries.now c.in-Wait.is c.args.at (length c.args.out.now) c.requires.1
 
-pub take_lines-requires : goal.take_lines-requires
-take_lines-requires c =
-    let e : c.args.a ≡ answer.Take c.in-Take.n = search rules in
-    let n : slots_listed c.args.a ≡ c.in-Take.n = ap slots_listed e in
-    (omega (arith, c.requires.0), omega (arith, c.requires.1))
-
-pub answer_line-requires : goal.answer_line-requires
-answer_line-requires c =
-    let e : c.args.a ≡ answer.Answer c.in-Answer.members c.in-Answer.errors c.in-Answer.woken = search rules in
-    room c.args.entries.now e c.args.at (length c.args.out.now) c.requires.1
-
-pub returns-in-Refused : goal.returns-in-Refused
-returns-in-Refused c =
-    let e : c.args.a ≡ answer.Refused c.in-Refused.n = search rules in
-    found c.args.entries.now e c.refusal_line.ensures
+pub word_line-requires-in-Answer : goal.word_line-requires-in-Answer
+unfolding ascii decimals
+word_line-requires-in-Answer c = room c.args.entries.now c.in-Answer.is c.args.at (length c.args.out.now) c.requires.1
 
 pub returns-in-Open : goal.returns-in-Open
-returns-in-Open c =
-    let e : c.args.a ≡ answer.Open = search rules in
-    found c.args.entries.now e c.open_line.ensures
+unfolding ascii decimals
+returns-in-Open c = found c.args.entries.now c.in-Open.is c.word_line.ensures
 
 pub returns-in-AnchorSame : goal.returns-in-AnchorSame
-returns-in-AnchorSame c =
-    let e : c.args.a ≡ answer.AnchorSame = search rules in
-    found c.args.entries.now e c.anchor_same_line.ensures
+unfolding ascii decimals
+returns-in-AnchorSame c = found c.args.entries.now c.in-AnchorSame.is c.word_line-in-AnchorSame.ensures
 
 pub returns-in-AnchorFresh : goal.returns-in-AnchorFresh
-returns-in-AnchorFresh c =
-    let e : c.args.a ≡ answer.AnchorFresh = search rules in
-    found c.args.entries.now e c.anchor_fresh_line.ensures
-
-pub returns-in-Advance : goal.returns-in-Advance
-returns-in-Advance c =
-    let e : c.args.a ≡ answer.Advance c.in-Advance.report = search rules in
-    found c.args.entries.now e c.advance_line.ensures
-
-pub returns-in-Value : goal.returns-in-Value
-returns-in-Value c =
-    let e : c.args.a ≡ answer.Value c.in-Value.v = search rules in
-    found c.args.entries.now e c.value_line.ensures
+unfolding ascii decimals
+returns-in-AnchorFresh c = found c.args.entries.now c.in-AnchorFresh.is c.word_line-in-AnchorFresh.ensures
 
 pub returns-in-Nothing : goal.returns-in-Nothing
-returns-in-Nothing c =
-    let e : c.args.a ≡ answer.Nothing = search rules in
-    found c.args.entries.now e c.none_line.ensures
+unfolding ascii decimals
+returns-in-Nothing c = found c.args.entries.now c.in-Nothing.is c.word_line-in-Nothing.ensures
 
 pub returns-in-Put : goal.returns-in-Put
-returns-in-Put c =
-    let e : c.args.a ≡ answer.Put = search rules in
-    found c.args.entries.now e c.put_line.ensures
+unfolding ascii decimals
+returns-in-Put c = found c.args.entries.now c.in-Put.is c.word_line-in-Put.ensures
 
 pub returns-in-Wait : goal.returns-in-Wait
-returns-in-Wait c =
-    let e : c.args.a ≡ answer.Wait c.in-Wait.n = search rules in
-    found c.args.entries.now e c.wait_line.ensures
-
-pub returns-in-Take : goal.returns-in-Take
-returns-in-Take c =
-    let e : c.args.a ≡ answer.Take c.in-Take.n = search rules in
-    found c.args.entries.now e c.take_lines.ensures
+unfolding ascii decimals
+returns-in-Wait c = found c.args.entries.now c.in-Wait.is c.word_line-in-Wait.ensures
 
 pub returns-in-Answer : goal.returns-in-Answer
-returns-in-Answer c =
-    let e : c.args.a ≡ answer.Answer c.in-Answer.members c.in-Answer.errors c.in-Answer.woken = search rules in
-    found c.args.entries.now e c.answer_line.ensures
+unfolding ascii decimals
+returns-in-Answer c = found c.args.entries.now c.in-Answer.is c.word_line-in-Answer.ensures

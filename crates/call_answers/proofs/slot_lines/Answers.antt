@@ -1,7 +1,6 @@
 -- `call_answers::slot_lines` meets its contract. Assumes nothing.
-use borrow.Author.Rules.{rules}
 use Prim.Native.Nat.{ℕ, ◌+◌, ◌≤◌, ◌<◌}
-use mathlib.Core.Path.{◌≡◌, refl, sym, ap, ◌∙◌}
+use mathlib.Core.Path.{◌≡◌, sym, ap, ◌∙◌}
 use mathlib.Core.List.{List, [], ◌∷◌}
 use native.Mathlib.Omega.{arith}
 use lib.ListN.{length}
@@ -14,9 +13,6 @@ use Rattle.listing.proofs.Lengths.{slot_line_length}
 use Rattle.call_answers.proofs.Slots.{slots_from, lines_at, lines_end, length_lines}
 use Rattle.call_answers.proofs.slot_lines.Goals as goal
 
-pub loop-i-init : goal.loop-i-init
-loop-i-init c = (search rules, refl, search rules, refl)
-
 pub slot_line-next-requires : goal.slot_line-next-requires
 slot_line-next-requires c = omega (arith, slot_line_length c.slot_at.result)
 
@@ -28,10 +24,8 @@ loop-i-preserved c =
     let h : l.i < a.n = omega arith in
     let room : l.next ≤ length l.out = omega arith in
     let w = written_as c.slot_line-next.ensures (ap (λ (x : Slot). line (ascii "slot") (slot_hex x ∷ [])) c.slot_at.ensures) in (
-      search rules,
-      search rules,
-      omega (arith, slot_line_length c.slot_at.result, c.slot_line-next.ensures.next_place, l.invariant.2),
-      written_left room w (slot_lines (slots_from (l.i + 1) a.n b)) ∙ ap (λ (x : List ℕ). placed l.next x l.out) (sym (lines_at l.i a.n b h)) ∙ l.invariant.3,
+      omega (arith, slot_line_length c.slot_at.result, c.slot_line-next.ensures.next_place, l.invariant.0),
+      written_left room w (slot_lines (slots_from (l.i + 1) a.n b)) ∙ ap (λ (x : List ℕ). placed l.next x l.out) (sym (lines_at l.i a.n b h)) ∙ l.invariant.1,
     )
 
 pub returns : goal.returns
@@ -41,6 +35,6 @@ returns c =
     let b = a.entries.now in
     let e : slot_lines (slots_from l.i a.n b) ≡ [] = lines_end l.i a.n b (omega arith) in
     record {
-      bytes = sym (placed_nil l.next l.out) ∙ ap (λ (x : List ℕ). placed l.next x l.out) (sym e) ∙ l.invariant.3;
+      bytes = sym (placed_nil l.next l.out) ∙ ap (λ (x : List ℕ). placed l.next x l.out) (sym e) ∙ l.invariant.1;
       next_place = omega (arith, length_lines a.n b);
     }

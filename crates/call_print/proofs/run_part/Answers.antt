@@ -1,14 +1,25 @@
 -- What a run's answer says of the part.
 use Prim.Native.Nat.{◌/◌}
+use mathlib.Core.Path.{ap, ◌∙◌}
+use mathlib.Core.Bool.{Bool}
 use lib.ListN.{length}
-use Rattle.call_print.proofs.Parts.{part_listed, part_broken}
+use Rattle.call_run.specs.declared.RunReply.TheVariants.{Listed}
+use Rattle.call_print.proofs.Parts.{part_last, part_more, part_broken}
 use Rattle.call_print.proofs.run_part.Goals as goal
 
-pub returns-in-Listed : goal.returns-in-Listed
-returns-in-Listed c =
+pub returns-then-ended : goal.returns-then-ended
+returns-then-ended c =
     let a = c.args in
-    part_listed (length a.work.now) (length a.entries.now / 52) a.list.now a.from a.members.now a.s.now a.out.now _ _ c.run.result c.run.ensures
-    _ _ _ c.in-Listed.is
+    let r = c.in-Listed in
+    part_last (length a.work.now) (length a.entries.now / 52) a.list.now a.from a.members.now a.s.now a.out.now _ _ c.run.result c.run.ensures
+    _ _ (r.is ∙ ap (λ (t : Bool). Listed r.next r.written t) c.if-ended.true)
+
+pub returns-else-ended : goal.returns-else-ended
+returns-else-ended c =
+    let a = c.args in
+    let r = c.in-Listed in
+    part_more (length a.work.now) (length a.entries.now / 52) a.list.now a.from a.members.now a.s.now a.out.now _ _ c.run.result c.run.ensures
+    _ _ (r.is ∙ ap (λ (t : Bool). Listed r.next r.written t) c.if-ended.false)
 
 pub returns-in-Broken : goal.returns-in-Broken
 returns-in-Broken c =

@@ -19,14 +19,15 @@ run_calls-last-requires c =
     let a = c.args in
     (record { known_is = c.is_store.ensures; ended_is = refl; room = omega arith }, refl, (long_enough a.list.now a.members.now a.out.now long).1)
 
-pub returns-then-last : goal.returns-then-last
-returns-then-last c =
+pub returns-in-Some : goal.returns-in-Some
+returns-in-Some c =
     let long : let a = c.args in
     too_short a.list.now a.members.now a.out.now ≡ false = sym c.too_short.ensures ∙ c.if-too_short.false in
-    let a = c.args in (
+    let a = c.args in
+    rw c.from.ensures (
       long,
       ran_broken (length a.work.now) (length a.entries.now / 52) a.list.now a.s.now a.out.now a.from.at c.is_store.result _ _ c.run_calls-last.result
-          c.run_calls-last.ensures.run c.if-last.true,
+          c.run_calls-last.ensures.run c.in-Some.fault c.in-Some.is,
     )
 
 pub returns : goal.returns
@@ -36,7 +37,7 @@ returns c =
     let a = c.args in (
       long,
       ran_calls (length a.work.now) (length a.entries.now / 52) a.list.now a.s.now a.out.now a.from.at c.is_store.result _ _ c.run_calls-last.result
-          c.run_calls-last.ensures.run c.if-last.false,
+          c.run_calls-last.ensures.run c.in_default.is,
       c.run_calls-last.ensures.run.now_at.ended_is,
       c.run_calls-last.ensures.room,
     )

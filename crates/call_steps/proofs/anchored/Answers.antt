@@ -1,9 +1,9 @@
 -- `call_steps::anchored` meets its contract. Assumes nothing.
+use Rattle.std.specs.Prelude.{is_some}
 use Prim.Native.Nat.{ℕ}
 use mathlib.Core.Path.{◌≡◌, ap, subst}
 use mathlib.Core.List.{List}
 use Rattle.model.specs.declared.storage_memo.ReadAnchor.{ReadAnchor}
-use Rattle.model.specs.Contents.{is_some}
 use Rattle.model.specs.Store.{Call, on_store, at_anchor}
 use Rattle.call_reader.specs.declared.AnchoredCall.{AnchoredCall}
 use Rattle.call_reader.specs.declared.AnchoredCall.TheVariants.{OnSlot, Answer, AnswerFailed}

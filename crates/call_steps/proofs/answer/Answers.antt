@@ -1,9 +1,9 @@
 -- `call_steps::answer` meets its contract: what `unchecked_reads::answer` does with the members as entries. Assumes nothing.
+use Rattle.std.specs.Prelude.{is_some}
 use Prim.Native.Nat.{◌-◌, ◌*◌}
 use mathlib.Core.Path.{◌≡◌, sym, ap, ◌∙◌}
 use mathlib.Core.List.{List}
 use lib.ListN.{take}
-use Rattle.model.specs.Contents.{is_some}
 use Rattle.model.specs.Reads.{Member}
 use Rattle.model.specs.Entries.{members_of}
 use Rattle.model.specs.Store.{answer, at_anchor, on_store}

@@ -1,8 +1,8 @@
 -- `call_steps::answer_failed` meets its contract: what `unchecked_reads::answer_failed` does with the span's slots. Assumes nothing.
+use Rattle.std.specs.Prelude.{is_some}
 use mathlib.Core.Path.{sym, ap}
 use mathlib.Core.List.{List}
 use Rattle.model.specs.declared.delta_snapshot.Slot.{Slot}
-use Rattle.model.specs.Contents.{is_some}
 use Rattle.model.specs.Store.{answer_failed, at_anchor, on_store}
 use Rattle.call_steps.proofs.Lent.{slots_lent}
 use Rattle.call_steps.proofs.Said.{plain_failed, silent_answer, stepped_as}

@@ -1,7 +1,7 @@
 -- `call_steps::on_slot` meets its contract. Assumes nothing.
+use Rattle.std.specs.Prelude.{is_some}
 use mathlib.Core.Path.{◌≡◌, ap}
 use Rattle.model.specs.declared.storage_memo.ReadAnchor.{ReadAnchor}
-use Rattle.model.specs.Contents.{is_some}
 use Rattle.model.specs.Store.{on_slot, Call, on_store, at_anchor}
 use Rattle.call_reader.specs.declared.SlotCall.{SlotCall}
 use Rattle.call_reader.specs.declared.SlotCall.TheVariants.{Look, Get, Put, Read}

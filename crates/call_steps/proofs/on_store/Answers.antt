@@ -1,9 +1,9 @@
 -- `call_steps::on_store` meets its contract. Assumes nothing.
+use Rattle.std.specs.Prelude.{is_some}
 use Prim.Native.Nat.{ℕ}
 use mathlib.Core.Path.{◌≡◌, ap, subst}
 use mathlib.Core.List.{List}
 use lib.ListN.{length}
-use Rattle.model.specs.Contents.{is_some}
 use Rattle.call_list.specs.Meaning.{default_limits}
 use Rattle.call_reader.specs.declared.ListedCall.{ListedCall}
 use Rattle.call_reader.specs.declared.ListedCall.TheVariants.{OpenDefault, OpenWith, Install, Advance, Anchored}

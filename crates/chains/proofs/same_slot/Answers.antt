@@ -1,11 +1,7 @@
 -- `chains::same_slot` meets its contract.
-use native.Mathlib.Omega.{arith}
 use borrow.Author.Rules.{rules}
 use Rattle.chains.proofs.SlotAt.{other_slot, agree_more, one_slot}
 use Rattle.chains.proofs.same_slot.Goals as goal
-
-pub loop-k-init : goal.loop-k-init
-loop-k-init c = (search rules, λ m h. absurd (omega arith))
 
 pub returns-then-read_u64 : goal.returns-then-read_u64
 returns-then-read_u64 c =
@@ -15,9 +11,9 @@ returns-then-read_u64 c =
 pub loop-k-preserved : goal.loop-k-preserved
 loop-k-preserved c =
     let a = c.args in
-    (search rules, agree_more a.i a.j c.loop-k.k c.read_u64.result c.read_u64-in-loop-k.result a.s.now (search rules) c.read_u64.ensures c.read_u64-in-loop-k.ensures c.if-read_u64.false c.loop-k.invariant.1)
+    agree_more a.i a.j c.loop-k.k c.read_u64.result c.read_u64-in-loop-k.result a.s.now (search rules) c.read_u64.ensures c.read_u64-in-loop-k.ensures c.if-read_u64.false c.loop-k.invariant
 
 pub returns : goal.returns
 returns c =
     let a = c.args in
-    one_slot a.i a.j c.loop-k.k a.s.now (search rules) c.loop-k.invariant.1
+    one_slot a.i a.j c.loop-k.k a.s.now (search rules) c.loop-k.invariant

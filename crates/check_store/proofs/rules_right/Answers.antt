@@ -24,5 +24,5 @@ returns c =
     let n = c.word-n.result in
     let h : d < 256 = omega (arith, (parts_counts s c.requires.1).depth, c.word-depth.ensures header_width (lit< tt), c.requires.0) in
     c.cross_rules.ensures
-    ∙ ap (λ (R : Retention). cross_rules R c.word-3.result c.word-top.result (records_of n (take (length s - records_offset) (drop records_offset s)))) c.retention-kept.ensures
+    ∙ ap (λ (R : Retention). cross_rules R c.word-3.result c.word-top.result (records_of n (take (length s - records_offset) (drop records_offset s)))) c.of_words-kept.ensures
     ∙ rules_law s d n c.word-top.result c.word.result c.word-2.result c.word-3.result c.requires.0 c.requires.1 (c.word-depth.ensures header_width (lit< tt)) (c.word-n.ensures header_width (lit< tt)) (c.word-top.ensures ends_limit h) (c.word.ensures header_width (lit< tt)) (c.word-2.ensures header_width (lit< tt)) (c.word-3.ensures header_width (lit< tt))

@@ -1,17 +1,14 @@
 -- `checking::area_right` meets its contract.
-use borrow.Author.Rules.{rules}
-use mathlib.Core.Path.{refl, ◌∙◌}
-use Rattle.checking.proofs.Parts.{and_no, and_yes, area_both}
+use native.Mathlib.Omega.{arith}
+use Rattle.checking.proofs.Parts.{area_both}
 use Rattle.checking.proofs.area_right.Goals as goal
 
-pub returns-then-not-records_all : goal.returns-then-not-records_all
-returns-then-not-records_all c =
+pub returns-then-records_all : goal.returns-then-records_all
+returns-then-records_all c =
     let a = c.args in
-    let x = c.records_all in
-    and_no x.result _ c.if-not-records_all.true ∙ area_both a.number a.n a.capacity a.s.now _ _ (search rules) (search rules) x.ensures refl
+    rw (area_both a.number a.n a.capacity a.s.now (omega arith) (omega arith), ← c.records_all.ensures, c.if-records_all.true) c.zero.ensures
 
-pub returns : goal.returns
-returns c =
+pub returns-else-records_all : goal.returns-else-records_all
+returns-else-records_all c =
     let a = c.args in
-    let x = c.records_all in
-    and_yes x.result _ c.if-not-records_all.false ∙ area_both a.number a.n a.capacity a.s.now _ _ (search rules) (search rules) x.ensures c.zero.ensures
+    rw (area_both a.number a.n a.capacity a.s.now (omega arith) (omega arith), ← c.records_all.ensures, c.if-records_all.false)

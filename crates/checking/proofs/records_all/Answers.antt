@@ -1,36 +1,20 @@
 -- `checking::records_all` meets its contract.
-use borrow.Author.Rules.{rules}
+use Rattle.std.proofs.Common.{rules, refl}
+use borrow.Author.Tests.{tests}
 use native.Mathlib.Omega.{arith}
-use mathlib.Core.Path.{◌≡◌, refl, sym, ap, ◌∙◌}
-use Prim.Native.Nat.{◌+◌}
-use mathlib.Core.Bool.{Bool, ◌&&◌}
+use mathlib.Core.Path.{◌∙◌}
+use Prim.Native.Nat.{◌*◌}
 use lib.ListN.{drop}
-use Rattle.layout.specs.Layout.{record_width}
-use Rattle.checking.specs.Checks.{all_of, record_right, rows}
-use Rattle.checking.proofs.Steps.{row_next}
-use Rattle.checking.proofs.Rows.{all_end, length_rows}
+use Rattle.std.proofs.lemmas.Iterator.{YieldsList-from_range}
+use Rattle.std.proofs.lemmas.Iterator.Search.{all_from_yields_List}
+use Rattle.layout.specs.Layout.{record_size, record_width}
+use Rattle.image.specs.Image.{words_of}
+use Rattle.checking.specs.Checks.{record_right}
+use Rattle.checking.proofs.Rows.{all_numbered}
 use Rattle.checking.proofs.records_all.Goals as goal
-
-pub loop-i-init : goal.loop-i-init
-loop-i-init c = (search rules, refl)
-
-pub returns-then-not-record_right : goal.returns-then-not-record_right
-returns-then-not-record_right c =
-    let said : let a = c.args in
-    let es = rows record_width a.n a.s.now in
-    all_of (record_right a.number) (drop c.loop-i.i es) ≡ (c.record_right.result && all_of (record_right a.number) (drop (c.loop-i.i + 1) es)) = let a = c.args in
-    row_next record_width a.n c.loop-i.i (record_right a.number) a.s.now (search rules) ∙ ap (λ (t : Bool). t && all_of (record_right a.number) (drop (c.loop-i.i + 1) (rows record_width a.n a.s.now))) (sym c.record_right.ensures) in
-    sym (c.loop-i.invariant.1 ∙ said ∙ rw c.if-not-record_right.true)
-
-pub loop-i-preserved : goal.loop-i-preserved
-loop-i-preserved c =
-    let said : let a = c.args in
-    let es = rows record_width a.n a.s.now in
-    all_of (record_right a.number) (drop c.loop-i.i es) ≡ (c.record_right.result && all_of (record_right a.number) (drop (c.loop-i.i + 1) es)) = let a = c.args in
-    row_next record_width a.n c.loop-i.i (record_right a.number) a.s.now (search rules) ∙ ap (λ (t : Bool). t && all_of (record_right a.number) (drop (c.loop-i.i + 1) (rows record_width a.n a.s.now))) (sym c.record_right.ensures) in
-    (search rules, c.loop-i.invariant.1 ∙ said ∙ rw c.if-not-record_right.false)
 
 pub returns : goal.returns
 returns c =
     let a = c.args in
-    sym (c.loop-i.invariant.1 ∙ all_end (record_right a.number) (rows record_width a.n a.s.now) c.loop-i.i (omega (arith, length_rows record_width a.n a.s.now)))
+    all_from_yields_List (λ i. record_right a.number (words_of record_width (drop (record_size * i) a.s.now))) _ _ _ c.all.ensures.ran (YieldsList-from_range 0 a.n a.n refl (omega arith)) (λ x b q k. search (rules, tests))
+    ∙ all_numbered (record_right a.number) record_width a.n a.s.now

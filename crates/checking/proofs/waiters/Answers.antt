@@ -1,30 +1,27 @@
 -- `checking::waiters` meets its contract.
-use borrow.Author.Rules.{rules}
+use Rattle.std.proofs.Common.{rules}
+use borrow.Author.Tests.{tests}
 use native.Mathlib.Omega.{arith}
-use Prim.Native.Nat.{◌≤◌}
-use lib.Dec.{lit<}
+use mathlib.Core.Path.{◌∙◌}
+use Rattle.std.specs.List.{range_with_len}
+use Rattle.std.proofs.lemmas.Iterator.{YieldsList-from_range, YieldsList-from_map}
+use Rattle.std.proofs.lemmas.Iterator.Consumers.{sum_by_from_yields_List, fits_by_from_yields_list}
 use Rattle.layout.specs.Layout.{awaiting_width}
-use Rattle.checking.proofs.Steps.{waiters_next, waiters_end, waiters_few}
+use Rattle.checking.specs.Checks.{rows}
+use Rattle.checking.proofs.Rows.{length_rows}
+use Rattle.checking.proofs.Steps.{waiters_at, waiters_numbered, waiters_few}
 use Rattle.checking.proofs.waiters.Goals as goal
 
-pub loop-i-init : goal.loop-i-init
-loop-i-init c = (search rules, search rules, omega arith)
-
-pub overflow_add-w : goal.overflow_add-w
-overflow_add-w c =
-    let few : c.word-w.result ≤ 4294967295 = let a = c.args in
-    waiters_few a.n c.loop-i.i c.word-w.result a.s.now (search rules) (c.word-w.ensures awaiting_width (lit< tt)) c.requires.2 in
+pub sum-requires-clause-fits : goal.sum-requires-clause-fits
+sum-requires-clause-fits c =
     let a = c.args in
-    omega (arith, few, c.loop-i.invariant.1)
-
-pub loop-i-preserved : goal.loop-i-preserved
-loop-i-preserved c =
-    let few : c.word-w.result ≤ 4294967295 = let a = c.args in
-    waiters_few a.n c.loop-i.i c.word-w.result a.s.now (search rules) (c.word-w.ensures awaiting_width (lit< tt)) c.requires.2 in
-    let a = c.args in
-    (search rules, omega (arith, few, c.loop-i.invariant.1), omega (arith, c.loop-i.invariant.2, waiters_next a.n c.loop-i.i c.word-w.result a.s.now (search rules) (c.word-w.ensures awaiting_width (lit< tt))))
+    fits_by_from_yields_list (waiters_at a.s.now) (range_with_len 0 a.n) c.map.result _
+    (YieldsList-from_map _ (waiters_at a.s.now) (YieldsList-from_range 0 a.n a.n (cc) (omega arith)) c.map.ensures.closure (λ x r q k. search (rules, tests)))
+    (omega (arith, waiters_numbered a.n a.s.now, waiters_few (rows awaiting_width a.n a.s.now) c.requires.2, length_rows awaiting_width a.n a.s.now))
 
 pub returns : goal.returns
 returns c =
     let a = c.args in
-    omega (arith, c.loop-i.invariant.2, waiters_end a.n c.loop-i.i a.s.now (search rules))
+    sum_by_from_yields_List (waiters_at a.s.now) (range_with_len 0 a.n) c.map.result _ c.sum.ensures.ran
+    (YieldsList-from_map _ (waiters_at a.s.now) (YieldsList-from_range 0 a.n a.n (cc) (omega arith)) c.map.ensures.closure (λ x r q k. search (rules, tests)))
+    ∙ waiters_numbered a.n a.s.now

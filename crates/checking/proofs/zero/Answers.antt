@@ -1,26 +1,20 @@
 -- `checking::zero` meets its contract.
-use borrow.Author.Rules.{rules}
-use mathlib.Core.Path.{refl, sym, ap, ◌∙◌}
-use Prim.Native.Nat.{◌+◌}
-use mathlib.Core.Bool.{Bool, ◌&&◌}
-use lib.ListN.{take, drop, get_or}
-use lib.Dec.{eqb}
+use native.Mathlib.Omega.{arith}
+use mathlib.Core.Path.{sym, ap, ◌∙◌}
+use Prim.Native.Nat.{ℕ, ◌-◌}
+use lib.ListN.{take, drop}
 use Rattle.checking.specs.Checks.{all_zero}
-use Rattle.checking.proofs.Steps.{zero_next, zero_end, zero_both}
+use Rattle.checking.proofs.Steps.{zero_next, zero_end, drop_take}
 use Rattle.checking.proofs.zero.Goals as goal
 
-pub loop-i-init : goal.loop-i-init
-loop-i-init c = (search rules, search rules, refl)
-
-pub loop-i-preserved : goal.loop-i-preserved
-loop-i-preserved c =
+pub loop-b-preserved : goal.loop-b-preserved
+loop-b-preserved c =
     let a = c.args in
-    let s = a.s.now in
-    let i = c.loop-i.i in
-    let e = c.larger-m.ensures in
-    (search rules, search rules, c.loop-i.invariant.2 ∙ ap (λ (b : Bool). eqb c.loop-i.m 0 && b) (zero_next s i a.to (search rules) (search rules)) ∙ zero_both c.loop-i.m (get_or s i 0) c.larger-m.result (all_zero (drop (i + 1) (take a.to s))) e.0 e.1 e.2)
+    c.loop-b.invariant ∙ zero_next (take (a.to - a.from) (drop a.from a.s.now)) c.loop-b.m c.loop-b.b-index c.loop-b-test.true
 
 pub returns : goal.returns
 returns c =
     let a = c.args in
-    sym (c.loop-i.invariant.2 ∙ zero_end a.s.now c.loop-i.i a.to c.loop-i.m (search rules))
+    let l = take (a.to - a.from) (drop a.from a.s.now) in
+    sym (zero_end l c.loop-b.m c.loop-b.b-index c.loop-b-test.false) ∙ sym c.loop-b.invariant
+    ∙ ap all_zero (sym (drop_take a.from (a.to - a.from) a.s.now (omega arith)) ∙ ap (λ (k : ℕ). drop a.from (take k a.s.now)) (omega arith))

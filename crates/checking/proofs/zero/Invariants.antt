@@ -1,14 +1,10 @@
--- The loop of `checking::zero`: what it keeps, and its measure.
+-- The loop of `checking::zero`: what it keeps.
 use mathlib.Core.Path.{◌≡◌}
-use Prim.Native.Nat.{◌-◌, ◌≤◌}
 use mathlib.Core.Bool.{◌&&◌}
-use lib.ListN.{take, drop}
+use lib.ListN.{drop}
 use lib.Dec.{eqb}
 use Rattle.checking.specs.Checks.{all_zero}
 use Rattle.checking.proofs.zero.Given as goal
 
-abbrev pub invariant-loop-i : goal.invariant-loop-i
-invariant-loop-i l = (l.from ≤ l.i) × (l.i ≤ l.to) × (all_zero (drop l.from (take l.to l.s)) ≡ (eqb l.m 0 && all_zero (drop l.i (take l.to l.s))))
-
-abbrev pub decreases-loop-i : goal.decreases-loop-i
-decreases-loop-i l = l.to - l.i
+abbrev pub invariant-loop-b : goal.invariant-loop-b
+invariant-loop-b l = all_zero l.b-items ≡ (eqb l.m 0 && all_zero (drop l.b-index l.b-items))

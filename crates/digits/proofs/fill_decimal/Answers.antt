@@ -4,9 +4,9 @@ use Prim.Native.Nat.{ℕ, ◌≤◌, ◌<◌, ◌-◌}
 use mathlib.Core.Path.{ap, ◌∙◌}
 use mathlib.Core.List.{List}
 use native.Mathlib.Omega.{arith}
-use lib.ListN.{length, length-set, drop_of_length-le}
+use lib.ListN.{length, set, length-set, drop_of_length-le}
 use Rattle.call_list.specs.Listing.{decimal_from}
-use Rattle.digits.proofs.Digits.{decimal_step, decimal_end, tenth_fits, two_digits}
+use Rattle.digits.proofs.Digits.{decimal_step, decimal_end, tenth_fits, two_digits, digits_part}
 use Rattle.digits.proofs.fill_decimal.Goals as goal
 
 pub loop-rest-init : goal.loop-rest-init
@@ -32,12 +32,9 @@ loop-rest-preserved c =
       decimal_step l.k (l.k - 1) c.digit.result l.rest l.buffer (omega arith) (omega arith) t c.digit.ensures ∙ l.invariant.4,
     )
 
-pub shape_of-buffer : goal.shape_of-buffer
-shape_of-buffer c = simp length-set (omega arith)
-
 pub returns : goal.returns
 returns c =
-    let l = c.loop-rest in (
-      omega arith,
-      decimal_end l.k (l.k - 1) c.digit-2.result l.rest l.buffer (omega arith) (omega arith) (omega arith) c.digit-2.ensures ∙ l.invariant.4,
-    )
+    let l = c.loop-rest in
+    digits_part (l.k - 1) 20 (set l.buffer (l.k - 1) c.digit-2.result) (simp length-set (omega arith))
+    ∙ decimal_end l.k (l.k - 1) c.digit-2.result l.rest l.buffer (omega arith) (omega arith) (omega arith) c.digit-2.ensures
+    ∙ l.invariant.4

@@ -5,4 +5,4 @@ use Rattle.entries.proofs.read_address.Goals as goal
 pub returns : goal.returns
 returns c =
     let a = c.args in
-    address_read a.at _ _ _ a.s.now c.half.ensures.0 c.read_u64.ensures c.read_u64-2.ensures
+    address_read a.at _ _ _ a.s.now c.read_u32.ensures c.read_u64.ensures c.read_u64-2.ensures

@@ -1,12 +1,9 @@
--- `entries::write_u32` meets its contract. Assumes nothing.
-use mathlib.Core.Path.{ap, ◌∙◌}
-use mathlib.Core.List.{List}
-use Prim.Native.Nat.{ℕ}
-use Rattle.words.specs.Parts.{placed}
-use Rattle.entries.proofs.Placing.{be4_is}
+-- `entries::write_u32` meets its contract.
+use mathlib.Core.Path.{◌∙◌}
+use Rattle.words.proofs.Places.{placed_bytes}
 use Rattle.entries.proofs.write_u32.Goals as goal
 
 pub returns : goal.returns
 returns c =
     let a = c.args in
-    c.place.ensures ∙ ap (λ (l : List ℕ). placed a.at l a.s.now) (be4_is a.x)
+    placed_bytes a.at 4 a.x a.s.now _ (c.copy_from_slice.ensures.after ∙ c.to_be_bytes.ensures)

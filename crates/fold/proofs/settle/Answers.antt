@@ -15,10 +15,10 @@ use Rattle.fold.proofs.settle.Goals as goal
 pub returns-then-keep : goal.returns-then-keep
 returns-then-keep c =
     let a = c.args in
-    settled_yes a.keep a.used a.c (get_or (records_of a.n a.s.now) a.i no_record) (record_words (renewed a.used (read_record (words_at a.i a.s.now)))) a.out.now c.if-keep.true
-    (ap (λ (r : Record). record_words (renewed a.used r)) (sym (record_at a.n a.i a.s.now (search rules)))) c.write_record.ensures
+    settled_yes a.keep a.used a.c (get_or (records_of a.records.count a.records.bytes.now) a.i no_record) (record_words (renewed a.used (read_record (words_at a.i a.records.bytes.now)))) a.out.now c.if-keep.true
+    (ap (λ (r : Record). record_words (renewed a.used r)) (sym (record_at a.records.count a.i a.records.bytes.now (search rules)))) c.write_record.ensures
 
-pub returns : goal.returns
-returns c =
+pub returns-else-keep : goal.returns-else-keep
+returns-else-keep c =
     let a = c.args in
-    settled_no a.keep a.used a.c (get_or (records_of a.n a.s.now) a.i no_record) a.out.now c.if-keep.false
+    settled_no a.keep a.used a.c (get_or (records_of a.records.count a.records.bytes.now) a.i no_record) a.out.now c.if-keep.false

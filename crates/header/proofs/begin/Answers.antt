@@ -1,11 +1,11 @@
 -- `header::begin` meets its contract. Assumes nothing.
+use Rattle.std.specs.Prelude.{Some}
 use Prim.Native.Nat.{◌+◌, ◌*◌, ◌≤◌}
 use mathlib.Core.Path.{◌≡◌, sym, ap}
 use mathlib.Core.List.{[], ◌∷◌}
 use native.Mathlib.Omega.{arith}
 use lib.ListN.{length}
 use Rattle.layout.specs.Layout.{record_size, records_offset}
-use Rattle.model.specs.declared.storage_memo.BlockHash.TheVariants.{Known}
 use Rattle.model.specs.Slots.{u256_words}
 use Rattle.image.specs.Image.{hash_words}
 use Rattle.image.proofs.Areas.{StoreBytes}
@@ -40,19 +40,19 @@ clear-requires c =
 pub write_anchor-requires : goal.write_anchor-requires
 write_anchor-requires c = omega (arith, header_room _ c.requires, c.clear.auto.s)
 
-pub write_anchor-requires-in-Known : goal.write_anchor-requires-in-Known
-write_anchor-requires-in-Known c = omega (arith, header_room _ c.requires, c.clear.auto.s)
+pub write_anchor-requires-in-Some : goal.write_anchor-requires-in-Some
+write_anchor-requires-in-Some c = omega (arith, header_room _ c.requires, c.clear.auto.s)
 
-pub returns-in-Unknown : goal.returns-in-Unknown
-returns-in-Unknown c =
+pub returns-in-None : goal.returns-in-None
+returns-in-None c =
     let a = c.args in
     begun_by a.s.now a.anchor _ (0 ∷ 0 ∷ 0 ∷ 0 ∷ 0 ∷ []) _ _ (known_bytes c.args.s.now c.slice_known-1.given) c.requires c.read_u64-n.ensures
-    (ap hash_words (sym c.in-Unknown.is)) c.clear.ensures c.write_anchor.ensures
+    (ap hash_words (sym c.in-None.is)) c.clear.ensures c.write_anchor.ensures
 
-pub returns-in-Known : goal.returns-in-Known
-returns-in-Known c =
+pub returns-in-Some : goal.returns-in-Some
+returns-in-Some c =
     let a = c.args in
-    let h = c.in-Known.h in
-    let q : a.anchor.hash ≡ Known h = search rules in
+    let h = c.in-Some.h in
+    let q : a.anchor.hash ≡ Some h = search rules in
     begun_by a.s.now a.anchor _ (1 ∷ u256_words h) _ _ (known_bytes c.args.s.now c.slice_known-1.given) c.requires c.read_u64-n.ensures
-    (ap hash_words (sym q)) c.clear.ensures c.write_anchor-in-Known.ensures
+    (ap hash_words (sym q)) c.clear.ensures c.write_anchor-in-Some.ensures

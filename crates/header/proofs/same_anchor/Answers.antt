@@ -1,4 +1,5 @@
 -- `header::same_anchor` meets its contract: the words of the number and of the hash decide. Assumes nothing.
+use Rattle.std.specs.Prelude.{None, Option, Some}
 use borrow.Author.Rules.{rules}
 use mathlib.Core.Path.{◌≡◌, sym, ap, ◌∙◌}
 use mathlib.Core.List.{List}
@@ -7,14 +8,13 @@ use native.Mathlib.Omega.{arith}
 use lib.Dec.{lit<}
 use lib.ListN.{length}
 use Rattle.layout.specs.Layout.{records_offset}
-use Rattle.model.specs.declared.storage_memo.BlockHash.{BlockHash}
-use Rattle.model.specs.declared.storage_memo.BlockHash.TheVariants.{Unknown, Known}
 use Rattle.model.specs.Slots.{hash_eqb, anchor_eqb}
 use Rattle.image.specs.Lent.{store_of, generation_of, Installed}
 use Rattle.image.proofs.Areas.{StoreBytes, GenerationBytes}
 use Rattle.image.proofs.Lent.{store_in, generation_in}
 use Rattle.header.proofs.Anchors.{anchor_differs, anchor_hash, against_none, none_against, known_against}
 use Rattle.header.proofs.same_anchor.Goals as goal
+use Rattle.model.specs.declared.storage_memo.U256.{U256}
 
 -- A store is longer than its header.
 header : {b : List ℕ} → Installed b → records_offset ≤ length b
@@ -36,9 +36,9 @@ returns-in_default c =
     let past1 : let a = c.args in hash_eqb (generation_of a.s.now).anchor.hash a.anchor.hash ≡ anchor_eqb (generation_of a.s.now).anchor a.anchor = let w : GenerationBytes c.args.s.now _ _ = generation_in c.args.s.now c.requires in
     anchor_hash _ c.args.anchor (c.read_u64.ensures ∙ w.number_word) c.if-read_u64-anchor.false in
     let a = c.args in
-    let k : BlockHash = (generation_of a.s.now).anchor.hash in
+    let k : Option U256 = (generation_of a.s.now).anchor.hash in
     let w : GenerationBytes a.s.now _ _ = generation_in a.s.now c.requires in
-    let q : a.anchor.hash ≡ Unknown = c.in_default.is in
+    let q : a.anchor.hash ≡ None = c.in_default.is in
     against_none k c.read_u64-in_default.result (c.read_u64-in_default.ensures ∙ w.hash_word 0 (lit< tt)) ∙ ap (hash_eqb k) (sym q) ∙ past1
 
 pub read_u64-requires-2 : goal.read_u64-requires-2
@@ -46,11 +46,11 @@ read_u64-requires-2 c = omega (arith, header c.requires)
 
 pub returns-then-read_u64-eq0 : goal.returns-then-read_u64-eq0
 returns-then-read_u64-eq0 c =
-    let told : c.args.anchor.hash ≡ Known c.in-Known.h = search rules in
+    let told : c.args.anchor.hash ≡ Some c.in-Some.h = search rules in
     let past1 : let a = c.args in hash_eqb (generation_of a.s.now).anchor.hash a.anchor.hash ≡ anchor_eqb (generation_of a.s.now).anchor a.anchor = let w : GenerationBytes c.args.s.now _ _ = generation_in c.args.s.now c.requires in
     anchor_hash _ c.args.anchor (c.read_u64.ensures ∙ w.number_word) c.if-read_u64-anchor.false in
     let a = c.args in
-    let k : BlockHash = (generation_of a.s.now).anchor.hash in
+    let k : Option U256 = (generation_of a.s.now).anchor.hash in
     let w : GenerationBytes a.s.now _ _ = generation_in a.s.now c.requires in
     none_against k _ c.read_u64-2.result (c.read_u64-2.ensures ∙ w.hash_word 0 (lit< tt)) c.if-read_u64-eq0.true ∙ ap (hash_eqb k) (sym told) ∙ past1
 
@@ -59,11 +59,11 @@ same_u256-requires c = omega (arith, header c.requires)
 
 pub returns : goal.returns
 returns c =
-    let told : c.args.anchor.hash ≡ Known c.in-Known.h = search rules in
+    let told : c.args.anchor.hash ≡ Some c.in-Some.h = search rules in
     let past1 : let a = c.args in hash_eqb (generation_of a.s.now).anchor.hash a.anchor.hash ≡ anchor_eqb (generation_of a.s.now).anchor a.anchor = let w : GenerationBytes c.args.s.now _ _ = generation_in c.args.s.now c.requires in
     anchor_hash _ c.args.anchor (c.read_u64.ensures ∙ w.number_word) c.if-read_u64-anchor.false in
     let a = c.args in
-    let k : BlockHash = (generation_of a.s.now).anchor.hash in
+    let k : Option U256 = (generation_of a.s.now).anchor.hash in
     let w : GenerationBytes a.s.now _ _ = generation_in a.s.now c.requires in
     let read = c.read_u64-2 in
     c.same_u256.ensures

@@ -6,20 +6,7 @@ use Rattle.model.specs.Layers.{record_count}
 use Rattle.image.specs.Area.{layers_below}
 use Rattle.image.specs.Lent.{generation_of}
 use Rattle.layers.proofs.Search.{passed_start, passed_all, passed_empty, passed_highest, first_below, none_below}
-use borrow.Fn.Kinds.{In}
-use borrow.Fn.PlainCycle.{Measures, is, falls, and}
-use Rattle.layers.proofs.highest.Reads as highest
-use Rattle.layers.proofs.highest.Kinds as highest-kinds
 use Rattle.layers.proofs.+highest.Goals as goal
-
-abbrev μ-highest : Measures 1 highest-kinds.ps ℕ
-μ-highest κs a = a.1.0
-
-abbrev highest_at : ℕ → In 1 highest-kinds.ps
-highest_at t = and 1 highest-kinds.ps (is 1 highest-kinds.ps μ-highest t) highest.Pre
-
-abbrev highest_below : ℕ → In 1 highest-kinds.ps
-highest_below t = and 1 highest-kinds.ps (falls 1 highest-kinds.ps ◌<◌ μ-highest t) highest.Pre
 
 pub returns-then-k-eq0 : goal.returns-then-k-eq0
 returns-then-k-eq0 t c = let a = c.args in passed_all a.slot a.k a.k (generation_of a.s.now).base (passed_start _ _ _) c.if-k-eq0.true
@@ -54,12 +41,12 @@ pub overflow_add-result : goal.overflow_add-result
 overflow_add-result t c =
     let a = c.args in
     let z : 0 < a.k = omega (arith, c.if-k-eq0.false) in
-    let f = first_below a.s.now a.slot a.k a.k c.requires.0 (passed_start _ _ _) z c.requires.1 _ c.layer_place-place.ensures _ _ c.layer_start-start.ensures c.in-At.is in
+    let f = first_below a.s.now a.slot a.k a.k c.requires.0 (passed_start _ _ _) z c.requires.1 _ c.layer_place-place.ensures _ _ c.layer_start-start.ensures c.in-Ok.is in
     omega (arith, f.room)
 
 pub returns : goal.returns
 returns t c =
     let a = c.args in
     let z : 0 < a.k = omega (arith, c.if-k-eq0.false) in
-    let f = first_below a.s.now a.slot a.k a.k c.requires.0 (passed_start _ _ _) z c.requires.1 _ c.layer_place-place.ensures _ _ c.layer_start-start.ensures c.in-At.is in
+    let f = first_below a.s.now a.slot a.k a.k c.requires.0 (passed_start _ _ _) z c.requires.1 _ c.layer_place-place.ensures _ _ c.layer_start-start.ensures c.in-Ok.is in
     (omega arith, f)

@@ -2,43 +2,27 @@
 use mathlib.Core.Path.{sym, ◌∙◌}
 use native.Mathlib.Omega.{arith}
 use Rattle.layers.proofs.Search.{highest_at, highest_none, value_here, value_below, no_row}
-use Prim.Native.Nat.{ℕ, ◌<◌}
-use borrow.Fn.Kinds.{In}
-use borrow.Fn.PlainCycle.{Measures, is, falls, and}
-use Rattle.layers.proofs.value_row.Reads as Value-row
-use Rattle.layers.proofs.value_row.Kinds as value-row-kinds
 use Rattle.layers.proofs.+value_row.Goals as goal
 
-abbrev μ-value-row : Measures 1 value-row-kinds.ps ℕ
-μ-value-row κs a = a.1.0
-
-abbrev value_row_at : ℕ → In 1 value-row-kinds.ps
-value_row_at t =
-    and 1 value-row-kinds.ps (is 1 value-row-kinds.ps μ-value-row t) Value-row.Pre
-
-abbrev value_row_below : ℕ → In 1 value-row-kinds.ps
-value_row_below t =
-    and 1 value-row-kinds.ps (falls 1 value-row-kinds.ps ◌<◌ μ-value-row t) Value-row.Pre
-
-pub highest-found-requires : goal.highest-found-requires
-highest-found-requires t c = c.requires
+pub highest-requires : goal.highest-requires
+highest-requires t c = c.requires
 
 pub returns-in_default : goal.returns-in_default
-returns-in_default t c = no_row (sym (highest_none _ _ _ _ c.highest-found.ensures c.in_default.is).1)
+returns-in_default t c = no_row (sym (highest_none _ _ _ _ c.highest.ensures c.in_default.is).1)
 
 pub row_has-requires : goal.row_has-requires
-row_has-requires t c = (highest_at _ _ _ _ c.highest-found.ensures _ _ c.in-At.is).1.room
+row_has-requires t c = (highest_at _ _ _ _ c.highest.ensures _ c.in-Some.is).1.room
 
 pub overflow_add-result : goal.overflow_add-result
-overflow_add-result t c = omega (arith, (highest_at _ _ _ _ c.highest-found.ensures _ _ c.in-At.is).1.room)
+overflow_add-result t c = omega (arith, (highest_at _ _ _ _ c.highest.ensures _ c.in-Some.is).1.room)
 
 pub returns-then-row_has : goal.returns-then-row_has
-returns-then-row_has t c = value_here _ _ _ _ _ (highest_at _ _ _ _ c.highest-found.ensures _ _ c.in-At.is).1 (sym c.row_has.ensures ∙ c.if-row_has.true)
+returns-then-row_has t c = value_here _ _ _ _ _ (highest_at _ _ _ _ c.highest.ensures _ c.in-Some.is).1 (sym c.row_has.ensures ∙ c.if-row_has.true)
 
 pub value_row-requires : goal.value_row-requires
 value_row-requires t c =
-    let h = highest_at _ _ _ _ c.highest-found.ensures _ _ c.in-At.is in
+    let h = highest_at _ _ _ _ c.highest.ensures _ c.in-Some.is in
     (omega (arith, h.0, c.requires.0), (c.requires.0, omega (arith, h.1.few)))
 
 pub returns : goal.returns
-returns t c = value_below _ _ _ _ _ (highest_at _ _ _ _ c.highest-found.ensures _ _ c.in-At.is).1 c.value_row.result (sym c.row_has.ensures ∙ c.if-row_has.false) c.value_row.ensures
+returns t c = value_below _ _ _ _ _ (highest_at _ _ _ _ c.highest.ensures _ c.in-Some.is).1 c.value_row.result (sym c.row_has.ensures ∙ c.if-row_has.false) c.value_row.ensures

@@ -1,6 +1,5 @@
 -- `layers::resolved_at` meets its contract. Assumes nothing.
-use mathlib.Core.Path.{ap, ◌∙◌}
-use Rattle.model.specs.Contents.{held_option}
+use mathlib.Core.Path.{◌∙◌}
 use Rattle.layers.proofs.Search.{value_at}
 use Rattle.layers.proofs.resolved_at.Goals as goal
 
@@ -11,4 +10,4 @@ pub row_held-requires : goal.row_held-requires
 row_held-requires c = (value_at _ _ _ c.served_row-found.ensures c.if-found-eq0.false).room
 
 pub returns : goal.returns
-returns c = ap held_option c.row_held.ensures ∙ (value_at _ _ _ c.served_row-found.ensures c.if-found-eq0.false).value_is
+returns c = c.row_held.ensures ∙ (value_at _ _ _ c.served_row-found.ensures c.if-found-eq0.false).value_is

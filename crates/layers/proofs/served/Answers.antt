@@ -1,7 +1,7 @@
 -- `layers::served` meets its contract. Assumes nothing.
+use Rattle.std.specs.Prelude.{Some}
 use Prim.Native.Nat.{◌+◌}
 use mathlib.Core.Path.{sym, ap, ◌∙◌}
-use mathlib.Core.Option.{some}
 use native.Mathlib.Omega.{arith}
 use Rattle.image.specs.Lent.{store_of, generation_of}
 use Rattle.layers.proofs.Search.{value_here, value_below, resolved_served, resolved_stale, no_row}
@@ -10,7 +10,7 @@ use Rattle.layers.proofs.served.Goals as goal
 pub returns-then-not-serves : goal.returns-then-not-serves
 returns-then-not-serves c =
     let b = c.args.s.now in
-    no_row (resolved_stale (store_of b).config.retention (generation_of b) c.args.slot _ _ _ _ (ap some c.row_use-used.ensures ∙ c.requires.1.use_is) c.retention.ensures c.installed_number.ensures c.serves.ensures c.if-not-serves.true)
+    no_row (resolved_stale (store_of b).config.retention (generation_of b) c.args.slot _ _ _ _ (ap Some c.row_use-used.ensures ∙ c.requires.1.use_is) c.retention.ensures c.installed_number.ensures c.serves.ensures c.if-not-serves.true)
 
 pub overflow_add-result : goal.overflow_add-result
 overflow_add-result c = omega (arith, c.requires.1.room)
@@ -18,9 +18,9 @@ overflow_add-result c = omega (arith, c.requires.1.room)
 pub returns-then-row_has : goal.returns-then-row_has
 returns-then-row_has c =
     let b = c.args.s.now in
-    resolved_served (store_of b).config.retention (generation_of b) c.args.slot _ _ _ _ (ap some c.row_use-used.ensures ∙ c.requires.1.use_is) c.retention.ensures c.installed_number.ensures c.serves.ensures (c.args.row + 1) b c.if-not-serves.false (value_here _ _ _ _ _ c.requires.1 (sym c.row_has.ensures ∙ c.if-row_has.true))
+    resolved_served (store_of b).config.retention (generation_of b) c.args.slot _ _ _ _ (ap Some c.row_use-used.ensures ∙ c.requires.1.use_is) c.retention.ensures c.installed_number.ensures c.serves.ensures (c.args.row + 1) b c.if-not-serves.false (value_here _ _ _ _ _ c.requires.1 (sym c.row_has.ensures ∙ c.if-row_has.true))
 
 pub returns : goal.returns
 returns c =
     let b = c.args.s.now in
-    resolved_served (store_of b).config.retention (generation_of b) c.args.slot _ _ _ _ (ap some c.row_use-used.ensures ∙ c.requires.1.use_is) c.retention.ensures c.installed_number.ensures c.serves.ensures c.value_row.result b c.if-not-serves.false (value_below _ _ _ _ _ c.requires.1 c.value_row.result (sym c.row_has.ensures ∙ c.if-row_has.false) c.value_row.ensures)
+    resolved_served (store_of b).config.retention (generation_of b) c.args.slot _ _ _ _ (ap Some c.row_use-used.ensures ∙ c.requires.1.use_is) c.retention.ensures c.installed_number.ensures c.serves.ensures c.value_row.result b c.if-not-serves.false (value_below _ _ _ _ _ c.requires.1 c.value_row.result (sym c.row_has.ensures ∙ c.if-row_has.false) c.value_row.ensures)

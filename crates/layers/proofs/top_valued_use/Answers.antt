@@ -1,43 +1,43 @@
 -- `layers::top_valued_use` meets its contract. Assumes nothing.
-use mathlib.Core.Path.{◌≡◌}
+use Rattle.std.specs.Prelude.{Err, Ok}
+use mathlib.Core.Path.{◌≡◌, sym, ◌∙◌}
 use native.Mathlib.Omega.{arith}
 use borrow.Author.Rules.{rules}
-use Rattle.records.specs.declared.Found.TheVariants.{At as FoundAt, Absent as FoundAbsent}
 use Rattle.layers.proofs.Search.{top_unvalued, top_room, top_use_none, top_use_some}
 use Rattle.layers.proofs.top_valued_use.Goals as goal
 
 pub returns-in_default : goal.returns-in_default
 returns-in_default c t e =
     let i = c.in_default.field-0 in
-    let d : c.args.place ≡ FoundAbsent i = search rules in
+    let d : c.args.place ≡ Err i = search rules in
     top_unvalued c.args.s.now t i _ c.requires.0 e d
 
 pub overflow_add-row : goal.overflow_add-row
 overflow_add-row c =
-    let i = c.in-At.i in
-    let d : c.args.place ≡ FoundAt i = search rules in
+    let i = c.in-Ok.i in
+    let d : c.args.place ≡ Ok i = search rules in
     omega (arith, top_room c.args.s.now c.requires.1.slot _ i _ c.requires.0 c.top_start.ensures c.requires.1.place_is d)
 
-pub row_held-requires : goal.row_held-requires
-row_held-requires c =
-    let i = c.in-At.i in
-    let d : c.args.place ≡ FoundAt i = search rules in
+pub row_has-requires : goal.row_has-requires
+row_has-requires c =
+    let i = c.in-Ok.i in
+    let d : c.args.place ≡ Ok i = search rules in
     top_room c.args.s.now c.requires.1.slot _ i _ c.requires.0 c.top_start.ensures c.requires.1.place_is d
-
-pub returns-in_default-row_held : goal.returns-in_default-row_held
-returns-in_default-row_held c t e =
-    let i = c.in-At.i in
-    let d : c.args.place ≡ FoundAt i = search rules in
-    top_use_none c.args.s.now t _ i _ c.requires.0 c.top_start.ensures e d _ c.row_held.ensures c.in_default-row_held.is
 
 pub row_use-requires : goal.row_use-requires
 row_use-requires c =
-    let i = c.in-At.i in
-    let d : c.args.place ≡ FoundAt i = search rules in
+    let i = c.in-Ok.i in
+    let d : c.args.place ≡ Ok i = search rules in
     top_room c.args.s.now c.requires.1.slot _ i _ c.requires.0 c.top_start.ensures c.requires.1.place_is d
+
+pub returns-then-row_has : goal.returns-then-row_has
+returns-then-row_has c t e =
+    let i = c.in-Ok.i in
+    let d : c.args.place ≡ Ok i = search rules in
+    top_use_some c.args.s.now t _ i _ c.requires.0 c.top_start.ensures e d _ (sym c.row_has.ensures ∙ c.if-row_has.true) c.row_use.ensures
 
 pub returns : goal.returns
 returns c t e =
-    let i = c.in-At.i in
-    let d : c.args.place ≡ FoundAt i = search rules in
-    top_use_some c.args.s.now t _ i _ c.requires.0 c.top_start.ensures e d _ c.row_held.ensures _ _ c.in-Value.is c.row_use.ensures
+    let i = c.in-Ok.i in
+    let d : c.args.place ≡ Ok i = search rules in
+    top_use_none c.args.s.now t _ i _ c.requires.0 c.top_start.ensures e d (sym c.row_has.ensures ∙ c.if-row_has.false)

@@ -11,41 +11,47 @@ use Rattle.listing.specs.Lines.{counts_line, cold_counts}
 use Rattle.digits.proofs.Writing.{written_as}
 use Rattle.listing.proofs.advance_line.Goals as goal
 
-pub current_line-requires : goal.current_line-requires
-current_line-requires c =
+pub word_line-requires : goal.word_line-requires
+unfolding ascii
+word_line-requires c =
     let a = c.args in
     let e : a.outcome ≡ AlreadyCurrent = search rules in
     subst (λ (o : CarryOutcome). a.at + length (counts_line o a.c) ≤ length a.out.now) e c.requires
 
-pub carried_line-requires : goal.carried_line-requires
-carried_line-requires c =
+pub word_line-requires-in-Carried : goal.word_line-requires-in-Carried
+unfolding ascii
+word_line-requires-in-Carried c =
     let a = c.args in
     let e : a.outcome ≡ Carried c.in-Carried.n = search rules in
     subst (λ (o : CarryOutcome). a.at + length (counts_line o a.c) ≤ length a.out.now) e c.requires
 
-pub cold_line-requires : goal.cold_line-requires
-cold_line-requires c =
+pub word_line-requires-in-Cold : goal.word_line-requires-in-Cold
+unfolding ascii
+word_line-requires-in-Cold c =
     let a = c.args in
     let e : a.outcome ≡ Cold c.in-Cold.lineage c.in-Cold.bal = search rules in
     let h = subst (λ (o : CarryOutcome). a.at + length (counts_line o a.c) ≤ length a.out.now) e c.requires in
-    omega (arith, h, ap₂ (λ (x y : ℕ). length (line (ascii "cold") (decimals (cold_counts x y a.c)))) c.lineage_number.ensures c.skip_number.ensures)
+    omega (arith, h, ap₂ (λ (x y : ℕ). length (line (ascii "cold") (decimals (cold_counts x y a.c)))) c.lineage_number-l.ensures c.skip_number-k.ensures)
 
 pub returns-in-AlreadyCurrent : goal.returns-in-AlreadyCurrent
+unfolding ascii
 returns-in-AlreadyCurrent c =
     let a = c.args in
     let e : a.outcome ≡ AlreadyCurrent = search rules in
-    written_as c.current_line.ensures (ap (λ (o : CarryOutcome). counts_line o a.c) (sym e))
+    written_as c.word_line.ensures (ap (λ (o : CarryOutcome). counts_line o a.c) (sym e))
 
 pub returns-in-Carried : goal.returns-in-Carried
+unfolding ascii
 returns-in-Carried c =
     let a = c.args in
     let e : a.outcome ≡ Carried c.in-Carried.n = search rules in
-    written_as c.carried_line.ensures (ap (λ (o : CarryOutcome). counts_line o a.c) (sym e))
+    written_as c.word_line-in-Carried.ensures (ap (λ (o : CarryOutcome). counts_line o a.c) (sym e))
 
 pub returns-in-Cold : goal.returns-in-Cold
+unfolding ascii
 returns-in-Cold c =
     let a = c.args in
     let e : a.outcome ≡ Cold c.in-Cold.lineage c.in-Cold.bal = search rules in
-    written_as c.cold_line.ensures
-    (ap₂ (λ (x y : ℕ). line (ascii "cold") (decimals (cold_counts x y a.c))) c.lineage_number.ensures c.skip_number.ensures
+    written_as c.word_line-in-Cold.ensures
+    (ap₂ (λ (x y : ℕ). line (ascii "cold") (decimals (cold_counts x y a.c))) c.lineage_number-l.ensures c.skip_number-k.ensures
     ∙ ap (λ (o : CarryOutcome). counts_line o a.c) (sym e))

@@ -2,10 +2,10 @@
 use Rattle.call_list.specs.Listing.{ascii}
 use Rattle.listing.proofs.refusal_line.Goals as goal
 
-pub numbers_line-requires : goal.numbers_line-requires
+pub word_line-requires : goal.word_line-requires
 unfolding ascii
-numbers_line-requires c = c.requires
+word_line-requires c = c.requires
 
 pub returns : goal.returns
 unfolding ascii
-returns c = c.numbers_line.ensures
+returns c = c.word_line.ensures

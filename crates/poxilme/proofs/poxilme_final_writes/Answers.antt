@@ -1,6 +1,6 @@
 -- `poxilme::poxilme_final_writes` meets its contract: 9, or what `final_writes::final_writes` does. Assumes nothing.
 use Rattle.bal_plan.specs.Plan.{plan_of}
-use Rattle.bal_plan.specs.declared.Cap.{Cap}
+use Rattle.std.specs.Prelude.{ℕ, Option}
 use Rattle.final_writes.specs.Lent.{lent_lists, lent_final_writes}
 use Rattle.lent_calls.proofs.Joining.{unfit, fit, short_final, exported_final, answers_as}
 use Rattle.lent_calls.specs.Arguments.{reply_size, reply_enough}
@@ -23,5 +23,5 @@ pub returns : goal.returns
 returns c =
     let a = c.args in
     let k = c.final_writes-r in
-    let e = ap₂ (λ (m r : Cap). lent_final_writes (plan_of a.plan_addresses.now m r) (lent_lists a.accounts.now a.slots.now a.changes.now a.reads.now) a.writes_out.now a.reads_out.now) c.cap-most_writes.ensures c.cap-most_reads.ensures in
+    let e = ap₂ (λ (m r : Option ℕ). lent_final_writes (plan_of a.plan_addresses.now m r) (lent_lists a.accounts.now a.slots.now a.changes.now a.reads.now) a.writes_out.now a.reads_out.now) c.cap-most_writes.ensures c.cap-most_reads.ensures in
     exported_final a.reply.now a.writes_out.now a.reads_out.now _ {fits = reply_enough a.reply.now} (fit c.reply_enough.ensures c.if-not-reply_enough.false) k.result (answers_as e k.ensures) (c.write_final_writes.ensures _ _)

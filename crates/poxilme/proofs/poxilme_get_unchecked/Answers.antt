@@ -1,9 +1,10 @@
 -- `poxilme::poxilme_get_unchecked` meets its contract: 9, 21, 22 or 23, or what the record found says. Assumes nothing.
+use Rattle.lent_calls.specs.ReplyWords.{refused_by}
+use Rattle.std.specs.Prelude.{None}
 use Prim.Native.Nat.{ℕ, ◌-◌, ◌≤◌}
 use mathlib.Core.Path.{◌≡◌, refl, sym, ap, ◌∙◌}
 use mathlib.Core.Bool.{true}
 use mathlib.Core.List.{List}
-use mathlib.Core.Option.{none}
 use lib.ListN.{length}
 use Rattle.model.specs.declared.delta_snapshot.Slot.{Slot}
 use Rattle.model.specs.Contents.{own_value}
@@ -45,29 +46,29 @@ slot-t-requires c =
     let a = c.args in
     slot_long a.hash.now a.reply.now a.slot.now fits
 
-pub guard_lent-n-requires : goal.guard_lent-n-requires
-guard_lent-n-requires c =
+pub guard_lent-requires : goal.guard_lent-requires
+guard_lent-requires c =
     let fits : let a = c.args in slot_enough a.hash.now a.slot.now a.reply.now ≡ true = fit c.slot_enough.ensures c.if-not-slot_enough.false in
     let a = c.args in
     (decoded_some _ c.requires, λ z. full_long a.hash.now z (anchored_hash a.hash.now a.reply.now (slot_anchored a.hash.now a.reply.now a.slot.now fits)))
 
-pub returns-then-n-ne0 : goal.returns-then-n-ne0
-returns-then-n-ne0 c =
+pub returns-in-Err : goal.returns-in-Err
+returns-in-Err c =
     let fits : let a = c.args in slot_enough a.hash.now a.slot.now a.reply.now ≡ true = fit c.slot_enough.ensures c.if-not-slot_enough.false in
     let a = c.args in (
-      exported a.s.now a.reply.now _ {fits = slot_enough a.hash.now a.slot.now a.reply.now} fits (refused_gives c.guard_lent-n.result refl)
-          (by_guard a.s.now (lent_anchor a.number a.hash.now) c.guard_lent-n.result (plain_get (slot_of a.slot.now)) (decoded_some _ c.requires) c.guard_lent-n.ensures c.if-n-ne0.true),
+      exported a.s.now a.reply.now _ {fits = slot_enough a.hash.now a.slot.now a.reply.now} fits (refused_gives c.number.result (ap refused_by (sym c.number.ensures)))
+          (by_guard a.s.now (lent_anchor a.number a.hash.now) c.in-Err.refusal (plain_get (slot_of a.slot.now)) (decoded_some _ c.requires) (sym c.guard_lent.ensures ∙ c.in-Err.is)),
       c.requires,
     )
 
 pub top_number-requires : goal.top_number-requires
 top_number-requires c =
-    let here : let a = c.args in Here a.s.now (lent_anchor a.number a.hash.now) = past_guard _ _ (decoded_some _ c.requires) (sym c.guard_lent-n.ensures ∙ c.if-n-ne0.false) in
+    let here : let a = c.args in Here a.s.now (lent_anchor a.number a.hash.now) = past_guard _ _ (decoded_some _ c.requires) (sym c.guard_lent.ensures ∙ c.in_default.is) in
     here.has
 
 pub served_row-found-requires : goal.served_row-found-requires
 served_row-found-requires c =
-    let here : let a = c.args in Here a.s.now (lent_anchor a.number a.hash.now) = past_guard _ _ (decoded_some _ c.requires) (sym c.guard_lent-n.ensures ∙ c.if-n-ne0.false) in
+    let here : let a = c.args in Here a.s.now (lent_anchor a.number a.hash.now) = past_guard _ _ (decoded_some _ c.requires) (sym c.guard_lent.ensures ∙ c.in_default.is) in
     let place : let a = c.args in c.place_of-place.result ≡ place_in c.slot-t.result (generation_of a.s.now).top = let a = c.args in
     c.place_of-place.ensures (place_in c.slot-t.result (generation_of a.s.now).top) c.top_number.ensures in
     (here.has, place)
@@ -86,18 +87,18 @@ returns-then-found-eq0 c =
     Stepped x after (bytes_step a.s.now (alone (on_store (at_anchor (lent_anchor a.number a.hash.now) (on_slot (get c.slot-t.result))))))
     → Stepped x after (bytes_step a.s.now (alone (on_store (at_anchor (lent_anchor a.number a.hash.now) (on_slot (get (slot_of a.slot.now))))))) = λ x after e. let a = c.args in
     stepped_as (ap (λ (y : Slot). bytes_step a.s.now (alone (on_store (at_anchor (lent_anchor a.number a.hash.now) (on_slot (get y)))))) c.slot-t.ensures) e in
-    let here : let a = c.args in Here a.s.now (lent_anchor a.number a.hash.now) = past_guard _ _ (decoded_some _ c.requires) (sym c.guard_lent-n.ensures ∙ c.if-n-ne0.false) in
+    let here : let a = c.args in Here a.s.now (lent_anchor a.number a.hash.now) = past_guard _ _ (decoded_some _ c.requires) (sym c.guard_lent.ensures ∙ c.in_default.is) in
     let a = c.args in
     let s = a.s.now in
     let z = c.served_row-found.ensures.0 c.if-found-eq0.true in (
-      exported s a.reply.now _ {fits = slot_enough a.hash.now a.slot.now a.reply.now} fits (valued_gives none c.write_no_value.ensures)
-          (said _ _ (got_none s (known_bytes s c.slice_known-1.given) (lent_anchor a.number a.hash.now) here c.slot-t.result none z refl)),
+      exported s a.reply.now _ {fits = slot_enough a.hash.now a.slot.now a.reply.now} fits (valued_gives None c.write_no_value.ensures)
+          (said _ _ (got_none s (known_bytes s c.slice_known-1.given) (lent_anchor a.number a.hash.now) here c.slot-t.result None z refl)),
       c.requires,
     )
 
 pub has_room-requires : goal.has_room-requires
 has_room-requires c =
-    let here : let a = c.args in Here a.s.now (lent_anchor a.number a.hash.now) = past_guard _ _ (decoded_some _ c.requires) (sym c.guard_lent-n.ensures ∙ c.if-n-ne0.false) in
+    let here : let a = c.args in Here a.s.now (lent_anchor a.number a.hash.now) = past_guard _ _ (decoded_some _ c.requires) (sym c.guard_lent.ensures ∙ c.in_default.is) in
     here.has
 
 pub returns-then-not-has_room : goal.returns-then-not-has_room
@@ -109,7 +110,7 @@ returns-then-not-has_room c =
     Stepped x after (bytes_step a.s.now (alone (on_store (at_anchor (lent_anchor a.number a.hash.now) (on_slot (get c.slot-t.result))))))
     → Stepped x after (bytes_step a.s.now (alone (on_store (at_anchor (lent_anchor a.number a.hash.now) (on_slot (get (slot_of a.slot.now))))))) = λ x after e. let a = c.args in
     stepped_as (ap (λ (y : Slot). bytes_step a.s.now (alone (on_store (at_anchor (lent_anchor a.number a.hash.now) (on_slot (get y)))))) c.slot-t.ensures) e in
-    let here : let a = c.args in Here a.s.now (lent_anchor a.number a.hash.now) = past_guard _ _ (decoded_some _ c.requires) (sym c.guard_lent-n.ensures ∙ c.if-n-ne0.false) in
+    let here : let a = c.args in Here a.s.now (lent_anchor a.number a.hash.now) = past_guard _ _ (decoded_some _ c.requires) (sym c.guard_lent.ensures ∙ c.in_default.is) in
     let place : let a = c.args in c.place_of-place.result ≡ place_in c.slot-t.result (generation_of a.s.now).top = let a = c.args in
     c.place_of-place.ensures (place_in c.slot-t.result (generation_of a.s.now).top) c.top_number.ensures in
     let a = c.args in
@@ -132,7 +133,7 @@ write_row-requires c =
 
 pub touch_top-requires : goal.touch_top-requires
 touch_top-requires c =
-    let here : let a = c.args in Here a.s.now (lent_anchor a.number a.hash.now) = past_guard _ _ (decoded_some _ c.requires) (sym c.guard_lent-n.ensures ∙ c.if-n-ne0.false) in
+    let here : let a = c.args in Here a.s.now (lent_anchor a.number a.hash.now) = past_guard _ _ (decoded_some _ c.requires) (sym c.guard_lent.ensures ∙ c.in_default.is) in
     let place : let a = c.args in c.place_of-place.result ≡ place_in c.slot-t.result (generation_of a.s.now).top = let a = c.args in
     c.place_of-place.ensures (place_in c.slot-t.result (generation_of a.s.now).top) c.top_number.ensures in
     let ready : let a = c.args in Placed c.place_of-place.result c.slot-t.result a.s.now = record {
@@ -146,7 +147,7 @@ pub returns : goal.returns
 returns c =
     let found : let a = c.args in ValueIn (c.served_row-found.result - 1) (resolved (store_of a.s.now).config.retention (generation_of a.s.now) c.slot-t.result) a.s.now = let a = c.args in
     value_at c.served_row-found.result _ a.s.now c.served_row-found.ensures c.if-found-eq0.false in
-    let here : let a = c.args in Here a.s.now (lent_anchor a.number a.hash.now) = past_guard _ _ (decoded_some _ c.requires) (sym c.guard_lent-n.ensures ∙ c.if-n-ne0.false) in
+    let here : let a = c.args in Here a.s.now (lent_anchor a.number a.hash.now) = past_guard _ _ (decoded_some _ c.requires) (sym c.guard_lent.ensures ∙ c.in_default.is) in
     let place : let a = c.args in c.place_of-place.result ≡ place_in c.slot-t.result (generation_of a.s.now).top = let a = c.args in
     c.place_of-place.ensures (place_in c.slot-t.result (generation_of a.s.now).top) c.top_number.ensures in
     let ready : let a = c.args in Placed c.place_of-place.result c.slot-t.result a.s.now = record {

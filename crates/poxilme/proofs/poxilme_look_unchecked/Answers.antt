@@ -1,8 +1,9 @@
 -- `poxilme::poxilme_look_unchecked` meets its contract: 9, 21 or 22, or what the record found says. Assumes nothing.
+use Rattle.lent_calls.specs.ReplyWords.{refused_by}
+use Rattle.std.specs.Prelude.{None, Option}
 use Prim.Native.Nat.{◌-◌, ◌≤◌}
 use mathlib.Core.Path.{◌≡◌, refl, sym, ap, ◌∙◌}
 use mathlib.Core.Bool.{true}
-use mathlib.Core.Option.{Option, none}
 use lib.ListN.{length}
 use Rattle.model.specs.declared.delta_snapshot.Slot.{Slot}
 use Rattle.model.specs.Slots.{Value}
@@ -40,27 +41,27 @@ slot-t-requires c =
     let a = c.args in
     slot_long a.hash.now a.reply.now a.slot.now fits
 
-pub guard_lent-n-requires : goal.guard_lent-n-requires
-guard_lent-n-requires c =
+pub guard_lent-requires : goal.guard_lent-requires
+guard_lent-requires c =
     let fits : let a = c.args in slot_enough a.hash.now a.slot.now a.reply.now ≡ true = fit c.slot_enough.ensures c.if-not-slot_enough.false in
     let a = c.args in
     (decoded_some _ c.requires, λ z. full_long a.hash.now z (anchored_hash a.hash.now a.reply.now (slot_anchored a.hash.now a.reply.now a.slot.now fits)))
 
-pub returns-then-n-ne0 : goal.returns-then-n-ne0
-returns-then-n-ne0 c =
+pub returns-in-Err : goal.returns-in-Err
+returns-in-Err c =
     let fits : let a = c.args in slot_enough a.hash.now a.slot.now a.reply.now ≡ true = fit c.slot_enough.ensures c.if-not-slot_enough.false in
     let a = c.args in
-    exported a.s.now a.reply.now _ {fits = slot_enough a.hash.now a.slot.now a.reply.now} fits (refused_gives c.guard_lent-n.result refl)
-    (by_guard a.s.now (lent_anchor a.number a.hash.now) c.guard_lent-n.result (plain_look (slot_of a.slot.now)) (decoded_some _ c.requires) c.guard_lent-n.ensures c.if-n-ne0.true)
+    exported a.s.now a.reply.now _ {fits = slot_enough a.hash.now a.slot.now a.reply.now} fits (refused_gives c.number.result (ap refused_by (sym c.number.ensures)))
+    (by_guard a.s.now (lent_anchor a.number a.hash.now) c.in-Err.refusal (plain_look (slot_of a.slot.now)) (decoded_some _ c.requires) (sym c.guard_lent.ensures ∙ c.in-Err.is))
 
 pub top_number-requires : goal.top_number-requires
 top_number-requires c =
-    let here : let a = c.args in Here a.s.now (lent_anchor a.number a.hash.now) = past_guard _ _ (decoded_some _ c.requires) (sym c.guard_lent-n.ensures ∙ c.if-n-ne0.false) in
+    let here : let a = c.args in Here a.s.now (lent_anchor a.number a.hash.now) = past_guard _ _ (decoded_some _ c.requires) (sym c.guard_lent.ensures ∙ c.in_default.is) in
     here.has
 
 pub served_row-found-requires : goal.served_row-found-requires
 served_row-found-requires c =
-    let here : let a = c.args in Here a.s.now (lent_anchor a.number a.hash.now) = past_guard _ _ (decoded_some _ c.requires) (sym c.guard_lent-n.ensures ∙ c.if-n-ne0.false) in
+    let here : let a = c.args in Here a.s.now (lent_anchor a.number a.hash.now) = past_guard _ _ (decoded_some _ c.requires) (sym c.guard_lent.ensures ∙ c.in_default.is) in
     let found : let a = c.args in c.place_of-place.result ≡ place_in c.slot-t.result (generation_of a.s.now).top = let a = c.args in
     c.place_of-place.ensures (place_in c.slot-t.result (generation_of a.s.now).top) c.top_number.ensures in
     (here.has, found)
@@ -75,7 +76,7 @@ write_no_value-requires c =
 pub returns-then-found-eq0 : goal.returns-then-found-eq0
 returns-then-found-eq0 c =
     let fits : let a = c.args in slot_enough a.hash.now a.slot.now a.reply.now ≡ true = fit c.slot_enough.ensures c.if-not-slot_enough.false in
-    let here : let a = c.args in Here a.s.now (lent_anchor a.number a.hash.now) = past_guard _ _ (decoded_some _ c.requires) (sym c.guard_lent-n.ensures ∙ c.if-n-ne0.false) in
+    let here : let a = c.args in Here a.s.now (lent_anchor a.number a.hash.now) = past_guard _ _ (decoded_some _ c.requires) (sym c.guard_lent.ensures ∙ c.in_default.is) in
     let said : (o : Option Value) → let a = c.args in
     o ≡ resolved (store_of a.s.now).config.retention (generation_of a.s.now) c.slot-t.result
     → Stepped (ok (value_report o)) a.s.now (bytes_step a.s.now (alone (on_store (at_anchor (lent_anchor a.number a.hash.now) (on_slot (look (slot_of a.slot.now))))))) = λ o e. let a = c.args in
@@ -83,8 +84,8 @@ returns-then-found-eq0 c =
     stepped_as (ap (λ (y : Slot). bytes_step s (alone (on_store (at_anchor (lent_anchor a.number a.hash.now) (on_slot (look y)))))) c.slot-t.ensures)
     (looked s (known_bytes s c.type_inv.s) (lent_anchor a.number a.hash.now) here c.slot-t.result o e) in
     let a = c.args in
-    exported a.s.now a.reply.now _ {fits = slot_enough a.hash.now a.slot.now a.reply.now} fits (valued_gives none c.write_no_value.ensures)
-    (said none (c.served_row-found.ensures.0 c.if-found-eq0.true))
+    exported a.s.now a.reply.now _ {fits = slot_enough a.hash.now a.slot.now a.reply.now} fits (valued_gives None c.write_no_value.ensures)
+    (said None (c.served_row-found.ensures.0 c.if-found-eq0.true))
 
 pub write_row-requires : goal.write_row-requires
 write_row-requires c =
@@ -98,7 +99,7 @@ write_row-requires c =
 pub returns : goal.returns
 returns c =
     let fits : let a = c.args in slot_enough a.hash.now a.slot.now a.reply.now ≡ true = fit c.slot_enough.ensures c.if-not-slot_enough.false in
-    let here : let a = c.args in Here a.s.now (lent_anchor a.number a.hash.now) = past_guard _ _ (decoded_some _ c.requires) (sym c.guard_lent-n.ensures ∙ c.if-n-ne0.false) in
+    let here : let a = c.args in Here a.s.now (lent_anchor a.number a.hash.now) = past_guard _ _ (decoded_some _ c.requires) (sym c.guard_lent.ensures ∙ c.in_default.is) in
     let said : (o : Option Value) → let a = c.args in
     o ≡ resolved (store_of a.s.now).config.retention (generation_of a.s.now) c.slot-t.result
     → Stepped (ok (value_report o)) a.s.now (bytes_step a.s.now (alone (on_store (at_anchor (lent_anchor a.number a.hash.now) (on_slot (look (slot_of a.slot.now))))))) = λ o e. let a = c.args in

@@ -32,11 +32,11 @@ returns c =
     let a = c.args in
     let R = lent_retention a.bounded a.idle in
     let o = bytes_step a.s.now (alone (open_store a.capacity a.max_depth R)) in
-    let e = ap (λ (x : Retention). bytes_step a.s.now (alone (open_store a.capacity a.max_depth x))) c.retention-retention.ensures in
+    let e = ap (λ (x : Retention). bytes_step a.s.now (alone (open_store a.capacity a.max_depth x))) c.of_words-retention.ensures in
     let plain = stepped_as e c.«open».ensures in
     let st = stepped_as (sym (form_known a.bounded a.s.now o (omega arith))) plain in (
-      exported a.s.now a.reply.now _ (fit c.reply_enough.ensures c.if-not-reply_enough.false) (open_gives c.«open».result c.open_code.ensures) st,
+      exported a.s.now a.reply.now _ (fit c.reply_enough.ensures c.if-not-reply_enough.false) (open_gives c.«open».result c.code.ensures.of_open) st,
       λ z. opened_store a.s.now a.capacity a.max_depth R (lent_retention_fits a.bounded a.idle (omega arith)) plain.bytes_is
-          (sym (ap (λ (x : Answer). code_of (answer_given x)) plain.answer_is) ∙ sym c.open_code.ensures ∙ z),
+          (sym (ap (λ (x : Answer). code_of (answer_given x)) plain.answer_is) ∙ sym c.code.ensures.of_open ∙ z),
       keeps a.s.now (alone (open_store a.capacity a.max_depth R)) (lent_retention_fits a.bounded a.idle (omega arith)) plain.bytes_is,
     )

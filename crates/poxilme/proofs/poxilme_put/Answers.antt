@@ -43,6 +43,6 @@ returns c =
     let a = c.args in
     let v = c.value in
     let st = stepped_as (ap₂ (λ (x : ReadAnchor) (y : Slot). bytes_step a.s.now (alone (on_store (at_anchor x (on_slot (put y v.result)))))) c.anchor-anchor.ensures c.slot.ensures ∙ ap (λ (y : U256). bytes_step a.s.now (alone (on_store (at_anchor (lent_anchor a.number a.hash.now) (on_slot (put (slot_of a.slot.now) y)))))) v.ensures) c.put-r.ensures in (
-      exported a.s.now a.reply.now _ {fits = put_enough a.hash.now a.slot.now a.value.now a.reply.now} (fit {fits = put_enough a.hash.now a.slot.now a.value.now a.reply.now} c.put_enough.ensures c.if-not-put_enough.false) (put_gives c.put-r.result c.put_code.ensures) st,
+      exported a.s.now a.reply.now _ {fits = put_enough a.hash.now a.slot.now a.value.now a.reply.now} (fit {fits = put_enough a.hash.now a.slot.now a.value.now a.reply.now} c.put_enough.ensures c.if-not-put_enough.false) (put_gives c.put-r.result c.code.ensures.of_put) st,
       keeps a.s.now (alone (on_store (at_anchor (lent_anchor a.number a.hash.now) (on_slot (put (slot_of a.slot.now) (u256_at 0 a.value.now)))))) (and_intro _ _ (slot_of_fits a.slot.now (known_bytes a.slot.now c.type_inv.slot)) (u256_at_fits 0 a.value.now (known_bytes a.value.now c.type_inv.value))) st.bytes_is,
     )

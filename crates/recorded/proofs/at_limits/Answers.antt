@@ -1,7 +1,7 @@
 -- `recorded::at_limits` meets its contract: by computation, and by the laws of `take`.
+use Rattle.std.specs.Prelude.{None}
 use mathlib.Core.Path.{refl, ap}
 use mathlib.Core.List.{List}
-use mathlib.Core.Option.{none}
 use Prim.Native.Nat.{ℕ}
 use lib.Seq.{take_all, take-append-le}
 use Rattle.model.specs.Numbers
@@ -42,8 +42,8 @@ calls_takes : CallsTakes
 unfolding calls_output
 calls_takes =
     record {
-      whole_list = λ input h. ap (λ (l : List ℕ). listing default_limits none (call_list l)) (take_all 65536 input h);
-      rest_ignored = λ input rest h. ap (λ (l : List ℕ). listing default_limits none (call_list l)) (take-append-le 65536 input rest h);
+      whole_list = λ input h. ap (λ (l : List ℕ). listing default_limits None (call_list l)) (take_all 65536 input h);
+      rest_ignored = λ input rest h. ap (λ (l : List ℕ). listing default_limits None (call_list l)) (take-append-le 65536 input rest h);
       work_lent = refl;
       entries_lent = refl;
     }

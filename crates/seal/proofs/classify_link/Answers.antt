@@ -1,6 +1,6 @@
 -- `seal::classify_link` meets its contract. Assumes nothing.
+use Rattle.std.specs.Prelude.{Option, Some}
 use mathlib.Core.Path.{◌≡◌, sym, ap, ◌∙◌}
-use mathlib.Core.Option.{Option, some}
 use native.Mathlib.Omega.{arith}
 use Rattle.model.specs.Store.{Generation}
 use Rattle.model.specs.Advance.{classify_link}
@@ -22,7 +22,7 @@ pub returns-then-number : goal.returns-then-number
 returns-then-number c =
     let installed : Installed c.args.s.now = installs_some _ c.requires (sym c.is_installed.ensures ∙ c.if-not-is_installed.false) in
     let parent : let a = c.args in
-    classify_link (some (generation_of a.s.now).anchor) a.child a.parent_hash ≡ classify_link (anchor_of (store_of a.s.now).installed) a.child a.parent_hash = let a = c.args in
+    classify_link (Some (generation_of a.s.now).anchor) a.child a.parent_hash ≡ classify_link (anchor_of (store_of a.s.now).installed) a.child a.parent_hash = let a = c.args in
     ap (λ (x : Option Generation). classify_link (anchor_of x) a.child a.parent_hash) (sym installed.installs) in
     let a = c.args in
     last_parent (generation_of a.s.now).anchor a.child a.parent_hash _ c.installed_number-number.ensures c.if-number.true ∙ parent
@@ -31,7 +31,7 @@ pub returns-then-child-number : goal.returns-then-child-number
 returns-then-child-number c =
     let installed : Installed c.args.s.now = installs_some _ c.requires (sym c.is_installed.ensures ∙ c.if-not-is_installed.false) in
     let parent : let a = c.args in
-    classify_link (some (generation_of a.s.now).anchor) a.child a.parent_hash ≡ classify_link (anchor_of (store_of a.s.now).installed) a.child a.parent_hash = let a = c.args in
+    classify_link (Some (generation_of a.s.now).anchor) a.child a.parent_hash ≡ classify_link (anchor_of (store_of a.s.now).installed) a.child a.parent_hash = let a = c.args in
     ap (λ (x : Option Generation). classify_link (anchor_of x) a.child a.parent_hash) (sym installed.installs) in
     let a = c.args in
     not_next (generation_of a.s.now).anchor a.child a.parent_hash _ c.installed_number-number.ensures c.if-child-number.true ∙ parent
@@ -45,7 +45,7 @@ pub returns : goal.returns
 returns c =
     let installed : Installed c.args.s.now = installs_some _ c.requires (sym c.is_installed.ensures ∙ c.if-not-is_installed.false) in
     let parent : let a = c.args in
-    classify_link (some (generation_of a.s.now).anchor) a.child a.parent_hash ≡ classify_link (anchor_of (store_of a.s.now).installed) a.child a.parent_hash = let a = c.args in
+    classify_link (Some (generation_of a.s.now).anchor) a.child a.parent_hash ≡ classify_link (anchor_of (store_of a.s.now).installed) a.child a.parent_hash = let a = c.args in
     ap (λ (x : Option Generation). classify_link (anchor_of x) a.child a.parent_hash) (sym installed.installs) in
     let a = c.args in
     c.classify_hash.ensures ∙ next_parent (generation_of a.s.now).anchor a.child a.parent_hash _ c.installed_number-number.ensures (omega arith) c.if-child-number.false ∙ parent

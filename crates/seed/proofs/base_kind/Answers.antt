@@ -9,9 +9,9 @@ returns-in_default c = kind_unused _ _ _ (generation_of c.args.s.now).base _ _ _
 pub returns-then-serves : goal.returns-then-serves
 returns-then-serves c =
     kind_served _ _ _ (generation_of c.args.s.now).base _ _ _ c.layers.ensures c.freshest_use-used.ensures
-    _ _ _ _ c.in-At.is c.retention.ensures c.installed_number.ensures c.serves.ensures c.if-serves.true
+    _ _ _ _ c.in-Some.is c.retention.ensures c.installed_number.ensures c.serves.ensures c.if-serves.true
 
 pub returns : goal.returns
 returns c =
     kind_stale _ _ _ (generation_of c.args.s.now).base _ _ _ c.layers.ensures c.freshest_use-used.ensures
-    _ _ _ _ c.in-At.is c.retention.ensures c.installed_number.ensures c.serves.ensures _ c.if-serves.false c.unserved-2.ensures
+    _ _ _ _ c.in-Some.is c.retention.ensures c.installed_number.ensures c.serves.ensures _ c.if-serves.false c.unserved-2.ensures

@@ -3,7 +3,6 @@ use mathlib.Core.Path.{◌≡◌}
 use Rattle.model.specs.Contents.{valued_use}
 use Rattle.model.specs.Layers.{find}
 use Rattle.image.specs.Lent.{generation_of}
-use Rattle.layers.specs.Answers.{use_option}
 use Rattle.seed.proofs.Doing.{kind_unwritten, kind_written}
 use Rattle.seed.proofs.kind.Goals as goal
 
@@ -12,10 +11,10 @@ top_valued_use-requires c = (c.requires.0, record { slot = c.args.slot; place_is
 
 pub returns-in-None : goal.returns-in-None
 returns-in-None c =
-    let said : let a = c.args in use_option c.top_valued_use.result ≡ valued_use (find a.slot (generation_of a.s.now).top) = c.top_valued_use.ensures c.args.slot c.requires.2 in
+    let said : let a = c.args in c.top_valued_use.result ≡ valued_use (find a.slot (generation_of a.s.now).top) = c.top_valued_use.ensures c.args.slot c.requires.2 in
     kind_unwritten _ _ _ _ _ _ said _ c.in-None.is c.base_kind.ensures
 
-pub returns-in-At : goal.returns-in-At
-returns-in-At c =
-    let said : let a = c.args in use_option c.top_valued_use.result ≡ valued_use (find a.slot (generation_of a.s.now).top) = c.top_valued_use.ensures c.args.slot c.requires.2 in
-    kind_written _ _ _ _ _ _ said _ c.in-At.is
+pub returns-in-Some : goal.returns-in-Some
+returns-in-Some c =
+    let said : let a = c.args in c.top_valued_use.result ≡ valued_use (find a.slot (generation_of a.s.now).top) = c.top_valued_use.ensures c.args.slot c.requires.2 in
+    kind_written _ _ _ _ _ _ said _ c.in-Some.is

@@ -1,31 +1,28 @@
--- `settling::settle_members` meets its contract. Assumes nothing.
-use mathlib.Core.Path.{refl}
+-- `settling::settle_members` meets its contract.
+use borrow.Author.Rules.{rules}
 use native.Mathlib.Omega.{arith}
+use mathlib.Core.Path.{◌∙◌}
 use Rattle.header.proofs.Segments.{known_bytes}
 use Rattle.settling.proofs.Tops.{unchanged, next_room, next, all_settled}
-use borrow.Author.Rules.{rules}
 use Rattle.settling.proofs.settle_members.Goals as goal
 
-pub loop-at-init : goal.loop-at-init
-loop-at-init c =
-    let s = c.args.s.now in
-    (search rules, refl, unchanged s c.requires.0 (known_bytes s c.type_inv.s), refl)
+pub loop-member-init : goal.loop-member-init
+loop-member-init c = (search rules, unchanged c.args.s.now c.requires.0 (known_bytes c.args.s.now c.type_inv.s), search rules)
 
-pub settle_at-requires : goal.settle_at-requires
-settle_at-requires c =
-    let a = c.args in
-    (c.loop-at.invariant.2.installed, omega arith, next_room a.s.now c.loop-at.s a.list.now c.loop-at.at c.loop-at.invariant.2 c.loop-at.invariant.3 (omega arith) c.requires.1)
+pub settle-requires : goal.settle-requires
+settle-requires c =
+    let i = c.loop-member.invariant in
+    let e = c.in-Some.ensures.steps in
+    (i.1.installed, e.1.1 ∙ i.0, next_room _ _ _ _ _ _ i.1 i.2 e.1.0 (e.1.1 ∙ i.0) c.requires.1)
 
-pub loop-at-preserved : goal.loop-at-preserved
-loop-at-preserved c =
-    let a = c.args in
-    let n = next a.s.now c.loop-at.s a.list.now c.loop-at.at c.loop-at.invariant.2 c.loop-at.invariant.3 (omega arith) _ c.settle_at.ensures in
-    (search rules, search rules, n.0, n.1)
-
-pub shape_of-s : goal.shape_of-s
-shape_of-s c = c.loop-at.invariant.1
+pub loop-member-preserved : goal.loop-member-preserved
+loop-member-preserved c =
+    let i = c.loop-member.invariant in
+    let e = c.in-Some.ensures.steps in
+    let n = next _ _ _ _ _ _ i.1 i.2 e.1.0 (e.1.1 ∙ i.0) _ c.settle.ensures in
+    (e.0 ∙ i.0, n.0, n.1)
 
 pub returns : goal.returns
 returns c =
-    let a = c.args in
-    all_settled a.s.now c.loop-at.s a.list.now c.loop-at.at c.loop-at.invariant.2 c.loop-at.invariant.3 (omega arith)
+    let i = c.loop-member.invariant in
+    all_settled _ _ _ _ i.1 i.2 (omega (arith, c.in-None.ensures.steps.1.0, i.0))

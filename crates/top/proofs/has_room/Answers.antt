@@ -10,11 +10,11 @@ read_u64-requires c = omega (arith, header_room _ c.requires.is_store)
 pub overflow_add-result : goal.overflow_add-result
 overflow_add-result c = omega (arith, room_fits _ _ c.requires c.read_u64.ensures)
 
-pub read_u64-requires-in-Absent : goal.read_u64-requires-in-Absent
-read_u64-requires-in-Absent c = omega (arith, header_room _ c.requires.is_store)
+pub read_u64-requires-in-Err : goal.read_u64-requires-in-Err
+read_u64-requires-in-Err c = omega (arith, header_room _ c.requires.is_store)
 
-pub returns-in-At : goal.returns-in-At
-returns-in-At c = room_at _ _ _ c.requires c.in-At.is
+pub returns-in-Ok : goal.returns-in-Ok
+returns-in-Ok c = room_at _ _ _ c.requires c.in-Ok.is
 
-pub returns-in-Absent : goal.returns-in-Absent
-returns-in-Absent c = room_absent _ _ _ _ _ c.requires c.in-Absent.is c.read_u64.ensures c.read_u64-in-Absent.ensures
+pub returns-in-Err : goal.returns-in-Err
+returns-in-Err c = room_absent _ _ _ _ _ c.requires c.in-Err.is c.read_u64.ensures c.read_u64-in-Err.ensures

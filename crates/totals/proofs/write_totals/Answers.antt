@@ -1,8 +1,12 @@
--- `totals::write_totals` meets its contract. Assumes nothing.
-use Rattle.totals.proofs.Places.{words_placed}
+-- `totals::write_totals` meets its contract.
+use native.Mathlib.Omega.{arith}
+use Rattle.layout.specs.Layout.{totals_offset}
+use Rattle.image.specs.Image.{totals_words}
+use Rattle.totals.proofs.Places.{placed_none, word_placed}
 use Rattle.totals.proofs.write_totals.Goals as goal
 
-pub returns : goal.returns
-returns c =
-    words_placed c.args.t c.args.s.now c.write_u64.new.s c.write_u64-2.new.s c.write_u64-3.new.s c.write_u64-4.new.s c.write_u64-5.new.s c.write_u64-6.new.s c.write_u64-7.new.s c.write_u64-8.new.s c.write_u64-9.new.s c.requires
-    c.write_u64.ensures c.write_u64-2.ensures c.write_u64-3.ensures c.write_u64-4.ensures c.write_u64-5.ensures c.write_u64-6.ensures c.write_u64-7.ensures c.write_u64-8.ensures c.write_u64-9.ensures
+pub loop-i-init : goal.loop-i-init
+loop-i-init c = placed_none totals_offset c.args.s.now
+
+pub loop-i-preserved : goal.loop-i-preserved
+loop-i-preserved c = word_placed (totals_words c.args.t) totals_offset c.loop-i.i c.args.s.now c.loop-i.s c.write_u64.new.s c.loop-i-test.true (omega arith) c.loop-i.invariant c.write_u64.ensures

@@ -1,15 +1,14 @@
 -- `unchecked_calls::get` meets its contract. Assumes nothing.
+use Rattle.std.proofs.lemmas.Result.{err_from_is_err_and}
+use Rattle.std.specs.Prelude.{Some}
 use Prim.Native.Nat.{◌<◌}
 use mathlib.Core.Path.{◌≡◌, sym, ap, ◌∙◌}
-use mathlib.Core.Option.{some}
 use native.Mathlib.Omega.{arith}
 use Rattle.model.specs.Contents.{touch}
 use Rattle.model.specs.Layers.{find, record_count}
 use Rattle.model.specs.Store.{resolved, chain}
 use Rattle.image.specs.Lent.{store_of, generation_of}
 use Rattle.image.proofs.Lent.{decoded_some}
-use Rattle.model.specs.Contents.{held_option}
-use Rattle.model.specs.declared.delta_snapshot.Held.TheVariants.{Value as HeldValue}
 use Rattle.records.specs.Records.{count_after}
 use Rattle.top.specs.Top.{Placed}
 use Rattle.header.proofs.Segments.{known_bytes}
@@ -22,41 +21,43 @@ use Rattle.top.proofs.Rooms.{room_yes, room_no}
 use borrow.Author.Rules.{rules}
 use Rattle.unchecked_calls.proofs.get.Goals as goal
 
-pub guard-n-requires : goal.guard-n-requires
-guard-n-requires c = decoded_some _ c.requires
+pub guard-requires : goal.guard-requires
+guard-requires c = decoded_some _ c.requires
 
-pub returns-then-n-ne0 : goal.returns-then-n-ne0
-returns-then-n-ne0 c = by_guard _ _ _ (plain_get c.args.slot) (decoded_some _ c.requires) c.guard-n.ensures c.if-n-ne0.true
+pub returns-in_err-guard : goal.returns-in_err-guard
+returns-in_err-guard c =
+    let p = err_from_is_err_and c.from_residual.result c.from_residual.ensures.1 in
+    rw (p.1, p.2) (by_guard _ _ _ (plain_get c.args.slot) (decoded_some _ c.requires) (sym c.guard.ensures ∙ c.in_err-guard.was))
 
 pub top_place-place-requires : goal.top_place-place-requires
 top_place-place-requires c =
-    let here : let a = c.args in Here a.s.now a.anchor = past_guard _ _ (decoded_some _ c.requires) (sym c.guard-n.ensures ∙ c.if-n-ne0.false) in
+    let here : let a = c.args in Here a.s.now a.anchor = past_guard _ _ (decoded_some _ c.requires) (sym c.guard.ensures ∙ c.in_ok-guard.was) in
     here.has
 
 pub resolved_at-requires : goal.resolved_at-requires
 resolved_at-requires c =
-    let here : let a = c.args in Here a.s.now a.anchor = past_guard _ _ (decoded_some _ c.requires) (sym c.guard-n.ensures ∙ c.if-n-ne0.false) in
+    let here : let a = c.args in Here a.s.now a.anchor = past_guard _ _ (decoded_some _ c.requires) (sym c.guard.ensures ∙ c.in_ok-guard.was) in
     (here.has, c.top_place-place.ensures)
 
 pub returns-in_default : goal.returns-in_default
 returns-in_default c =
-    let here : let a = c.args in Here a.s.now a.anchor = past_guard _ _ (decoded_some _ c.requires) (sym c.guard-n.ensures ∙ c.if-n-ne0.false) in
+    let here : let a = c.args in Here a.s.now a.anchor = past_guard _ _ (decoded_some _ c.requires) (sym c.guard.ensures ∙ c.in_ok-guard.was) in
     let a = c.args in
     let s = a.s.now in
     let h : Here s a.anchor = here in
     said_none s (store_of s) (generation_of s) (known_bytes s c.slice_known-1.given) h.has.is_store h.has.installs a.anchor a.slot h.same
-    (sym c.resolved_at.ensures ∙ ap held_option c.in_default.is)
+    (sym c.resolved_at.ensures ∙ c.in_default.is)
 
 pub has_room-requires : goal.has_room-requires
 has_room-requires c =
-    let here : let a = c.args in Here a.s.now a.anchor = past_guard _ _ (decoded_some _ c.requires) (sym c.guard-n.ensures ∙ c.if-n-ne0.false) in
+    let here : let a = c.args in Here a.s.now a.anchor = past_guard _ _ (decoded_some _ c.requires) (sym c.guard.ensures ∙ c.in_ok-guard.was) in
     here.has
 
 pub returns-then-not-has_room : goal.returns-then-not-has_room
 returns-then-not-has_room c =
-    let here : let a = c.args in Here a.s.now a.anchor = past_guard _ _ (decoded_some _ c.requires) (sym c.guard-n.ensures ∙ c.if-n-ne0.false) in
-    let told : let a = c.args in resolved (store_of a.s.now).config.retention (generation_of a.s.now) a.slot ≡ some c.in-Value.v = let q : c.resolved_at.result ≡ HeldValue c.in-Value.v = search rules in
-    sym c.resolved_at.ensures ∙ ap held_option q in
+    let here : let a = c.args in Here a.s.now a.anchor = past_guard _ _ (decoded_some _ c.requires) (sym c.guard.ensures ∙ c.in_ok-guard.was) in
+    let told : let a = c.args in resolved (store_of a.s.now).config.retention (generation_of a.s.now) a.slot ≡ Some c.in-Some.v = let q : c.resolved_at.result ≡ Some c.in-Some.v = search rules in
+    sym c.resolved_at.ensures ∙ q in
     let a = c.args in
     let s = a.s.now in
     let g = generation_of s in
@@ -68,7 +69,7 @@ returns-then-not-has_room c =
 
 pub touch_top-requires : goal.touch_top-requires
 touch_top-requires c =
-    let here : let a = c.args in Here a.s.now a.anchor = past_guard _ _ (decoded_some _ c.requires) (sym c.guard-n.ensures ∙ c.if-n-ne0.false) in
+    let here : let a = c.args in Here a.s.now a.anchor = past_guard _ _ (decoded_some _ c.requires) (sym c.guard.ensures ∙ c.in_ok-guard.was) in
     let ready : let a = c.args in Placed c.top_place-place.result a.slot a.s.now = let h : Here _ _ = here in
     record {
       installed = h.has;
@@ -79,15 +80,15 @@ touch_top-requires c =
 
 pub returns : goal.returns
 returns c =
-    let here : let a = c.args in Here a.s.now a.anchor = past_guard _ _ (decoded_some _ c.requires) (sym c.guard-n.ensures ∙ c.if-n-ne0.false) in
+    let here : let a = c.args in Here a.s.now a.anchor = past_guard _ _ (decoded_some _ c.requires) (sym c.guard.ensures ∙ c.in_ok-guard.was) in
     let ready : let a = c.args in Placed c.top_place-place.result a.slot a.s.now = let h : Here _ _ = here in
     record {
       installed = h.has;
       place_is = c.top_place-place.ensures;
       room = room_yes _ _ _ c.has_room.ensures c.if-not-has_room.false;
     } in
-    let told : let a = c.args in resolved (store_of a.s.now).config.retention (generation_of a.s.now) a.slot ≡ some c.in-Value.v = let q : c.resolved_at.result ≡ HeldValue c.in-Value.v = search rules in
-    sym c.resolved_at.ensures ∙ ap held_option q in
+    let told : let a = c.args in resolved (store_of a.s.now).config.retention (generation_of a.s.now) a.slot ≡ Some c.in-Some.v = let q : c.resolved_at.result ≡ Some c.in-Some.v = search rules in
+    sym c.resolved_at.ensures ∙ q in
     let a = c.args in
     let s = a.s.now in
     let g = generation_of s in

@@ -10,11 +10,11 @@ use Rattle.unchecked_calls.proofs.install.Goals as goal
 pub guard-requires : goal.guard-requires
 guard-requires c = decoded_some _ c.requires
 
-pub returns-then-guard-eq0 : goal.returns-then-guard-eq0
-returns-then-guard-eq0 c =
+pub returns-in-Ok : goal.returns-in-Ok
+returns-in-Ok c =
     let s = c.args.s.now in
     let e : IsStore s = decoded_some s c.requires in
-    let h : Here s c.args.anchor = past_guard s c.args.anchor e (sym c.guard.ensures ∙ c.if-guard-eq0.true) in
+    let h : Here s c.args.anchor = past_guard s c.args.anchor e (sym c.guard.ensures ∙ c.in-Ok.is) in
     said_same s (store_of s) (generation_of s) (known_bytes s c.slice_known-1.given) e h.has.installs c.args.anchor h.same
 
 pub begin-requires : goal.begin-requires
@@ -24,4 +24,4 @@ pub returns : goal.returns
 returns c =
     let s = c.args.s.now in
     let a = c.args.anchor in
-    with_bytes c.begin.ensures (said_fresh s (store_of s) a (decoded_some s c.requires) (not_here (store_of s).installed a _ c.guard.ensures c.if-guard-eq0.false))
+    with_bytes c.begin.ensures (said_fresh s (store_of s) a (decoded_some s c.requires) (not_here (store_of s).installed a _ (sym c.guard.ensures ∙ c.in_default.is)))

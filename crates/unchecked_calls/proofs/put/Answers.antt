@@ -1,4 +1,5 @@
 -- `unchecked_calls::put` meets its contract. Assumes nothing.
+use Rattle.std.proofs.lemmas.Result.{err_from_is_err_and}
 use Prim.Native.Nat.{◌<◌}
 use mathlib.Core.Path.{sym, ◌∙◌}
 use native.Mathlib.Omega.{arith}
@@ -18,25 +19,27 @@ use Rattle.unchecked_calls.proofs.Guards.{by_guard}
 use Rattle.top.proofs.Rooms.{room_yes, room_no}
 use Rattle.unchecked_calls.proofs.put.Goals as goal
 
-pub guard-n-requires : goal.guard-n-requires
-guard-n-requires c = decoded_some _ c.requires
+pub guard-requires : goal.guard-requires
+guard-requires c = decoded_some _ c.requires
 
-pub returns-then-n-ne0 : goal.returns-then-n-ne0
-returns-then-n-ne0 c = by_guard _ _ _ (plain_put c.args.slot c.args.value) (decoded_some _ c.requires) c.guard-n.ensures c.if-n-ne0.true
+pub returns-in_err-guard : goal.returns-in_err-guard
+returns-in_err-guard c =
+    let p = err_from_is_err_and c.from_residual.result c.from_residual.ensures.1 in
+    rw (p.1, p.2) (by_guard _ _ _ (plain_put c.args.slot c.args.value) (decoded_some _ c.requires) (sym c.guard.ensures ∙ c.in_err-guard.was))
 
 pub top_place-place-requires : goal.top_place-place-requires
 top_place-place-requires c =
-    let here : let a = c.args in Here a.s.now a.anchor = past_guard _ _ (decoded_some _ c.requires) (sym c.guard-n.ensures ∙ c.if-n-ne0.false) in
+    let here : let a = c.args in Here a.s.now a.anchor = past_guard _ _ (decoded_some _ c.requires) (sym c.guard.ensures ∙ c.in_ok-guard.was) in
     here.has
 
 pub has_room-requires : goal.has_room-requires
 has_room-requires c =
-    let here : let a = c.args in Here a.s.now a.anchor = past_guard _ _ (decoded_some _ c.requires) (sym c.guard-n.ensures ∙ c.if-n-ne0.false) in
+    let here : let a = c.args in Here a.s.now a.anchor = past_guard _ _ (decoded_some _ c.requires) (sym c.guard.ensures ∙ c.in_ok-guard.was) in
     here.has
 
 pub returns-then-not-has_room : goal.returns-then-not-has_room
 returns-then-not-has_room c =
-    let here : let a = c.args in Here a.s.now a.anchor = past_guard _ _ (decoded_some _ c.requires) (sym c.guard-n.ensures ∙ c.if-n-ne0.false) in
+    let here : let a = c.args in Here a.s.now a.anchor = past_guard _ _ (decoded_some _ c.requires) (sym c.guard.ensures ∙ c.in_ok-guard.was) in
     let a = c.args in
     let s = a.s.now in
     let g = generation_of s in
@@ -48,7 +51,7 @@ returns-then-not-has_room c =
 
 pub settle_top-requires : goal.settle_top-requires
 settle_top-requires c =
-    let here : let a = c.args in Here a.s.now a.anchor = past_guard _ _ (decoded_some _ c.requires) (sym c.guard-n.ensures ∙ c.if-n-ne0.false) in
+    let here : let a = c.args in Here a.s.now a.anchor = past_guard _ _ (decoded_some _ c.requires) (sym c.guard.ensures ∙ c.in_ok-guard.was) in
     let ready : let a = c.args in Placed c.top_place-place.result a.slot a.s.now = let h : Here _ _ = here in
     record {
       installed = h.has;
@@ -59,7 +62,7 @@ settle_top-requires c =
 
 pub returns : goal.returns
 returns c =
-    let here : let a = c.args in Here a.s.now a.anchor = past_guard _ _ (decoded_some _ c.requires) (sym c.guard-n.ensures ∙ c.if-n-ne0.false) in
+    let here : let a = c.args in Here a.s.now a.anchor = past_guard _ _ (decoded_some _ c.requires) (sym c.guard.ensures ∙ c.in_ok-guard.was) in
     let ready : let a = c.args in Placed c.top_place-place.result a.slot a.s.now = let h : Here _ _ = here in
     record {
       installed = h.has;

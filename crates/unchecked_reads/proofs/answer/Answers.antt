@@ -1,4 +1,6 @@
 -- `unchecked_reads::answer` meets its contract. Assumes nothing.
+use Rattle.std.specs.Prelude.{Ok}
+use Rattle.std.proofs.lemmas.Result.{err_from_is_err_and}
 use mathlib.Core.Path.{◌≡◌, sym, ◌∙◌}
 use mathlib.Core.Bool.{true, false}
 use native.Mathlib.Omega.{arith}
@@ -16,28 +18,29 @@ use Rattle.unchecked_reads.proofs.Said.{stepped, by_answer_guard, past_answer_gu
 use Rattle.unchecked_reads.proofs.Counts.{distinct, taken_members}
 use Rattle.unchecked_reads.proofs.answer.Goals as goal
 
-pub guard_answer-n-requires : goal.guard_answer-n-requires
-guard_answer-n-requires c = (decoded_some _ c.requires, omega arith)
+pub guard_answer-requires : goal.guard_answer-requires
+guard_answer-requires c = (decoded_some _ c.requires, omega arith)
 
-pub returns-then-n-ne0 : goal.returns-then-n-ne0
-returns-then-n-ne0 c =
+pub returns-in_err-guard_answer : goal.returns-in_err-guard_answer
+returns-in_err-guard_answer c =
     let a = c.args in
-    stepped (by_answer_guard a.s.now a.anchor (answer (members_of a.members.now)) 0 (entry_slots 85 a.members.now) (entry_slots_members a.members.now)
-    (decoded_some _ c.requires) _ c.guard_answer-n.ensures c.if-n-ne0.true)
+    let p = err_from_is_err_and c.from_residual.result c.from_residual.ensures.1 in
+    rw (p.1, p.2) (stepped (by_answer_guard a.s.now a.anchor (answer (members_of a.members.now)) 0 (entry_slots 85 a.members.now) (entry_slots_members a.members.now)
+    (decoded_some _ c.requires) _ (sym c.guard_answer.ensures ∙ c.in_err-guard_answer.was)))
 
 pub all_taken-requires : goal.all_taken-requires
 all_taken-requires c =
     let passed : let a = c.args in
-    (has_duplicate (entry_slots 85 a.members.now) ≡ false) × (anchored_refusal (store_of a.s.now).installed a.anchor ≡ 0) = let a = c.args in
-    past_answer_guard (entry_slots 85 a.members.now) (store_of a.s.now).installed a.anchor _ c.guard_answer-n.ensures c.if-n-ne0.false in
+    (has_duplicate (entry_slots 85 a.members.now) ≡ false) × (anchored_refusal (store_of a.s.now).installed a.anchor ≡ Ok tt) = let a = c.args in
+    past_answer_guard (entry_slots 85 a.members.now) (store_of a.s.now).installed a.anchor _ (sym c.guard_answer.ensures ∙ c.in_ok-guard_answer.was) in
     let here : let a = c.args in Here a.s.now a.anchor = past_guard _ _ (decoded_some _ c.requires) passed.1 in
     (here.has, omega arith)
 
 pub returns-then-not-all_taken : goal.returns-then-not-all_taken
 returns-then-not-all_taken c =
     let passed : let a = c.args in
-    (has_duplicate (entry_slots 85 a.members.now) ≡ false) × (anchored_refusal (store_of a.s.now).installed a.anchor ≡ 0) = let a = c.args in
-    past_answer_guard (entry_slots 85 a.members.now) (store_of a.s.now).installed a.anchor _ c.guard_answer-n.ensures c.if-n-ne0.false in
+    (has_duplicate (entry_slots 85 a.members.now) ≡ false) × (anchored_refusal (store_of a.s.now).installed a.anchor ≡ Ok tt) = let a = c.args in
+    past_answer_guard (entry_slots 85 a.members.now) (store_of a.s.now).installed a.anchor _ (sym c.guard_answer.ensures ∙ c.in_ok-guard_answer.was) in
     let here : let a = c.args in Here a.s.now a.anchor = past_guard _ _ (decoded_some _ c.requires) passed.1 in
     let once : has_duplicate (entry_slots 85 c.args.members.now) ≡ false = passed.0 in
     let a = c.args in
@@ -48,8 +51,8 @@ returns-then-not-all_taken c =
 pub has_space-requires : goal.has_space-requires
 has_space-requires c =
     let passed : let a = c.args in
-    (has_duplicate (entry_slots 85 a.members.now) ≡ false) × (anchored_refusal (store_of a.s.now).installed a.anchor ≡ 0) = let a = c.args in
-    past_answer_guard (entry_slots 85 a.members.now) (store_of a.s.now).installed a.anchor _ c.guard_answer-n.ensures c.if-n-ne0.false in
+    (has_duplicate (entry_slots 85 a.members.now) ≡ false) × (anchored_refusal (store_of a.s.now).installed a.anchor ≡ Ok tt) = let a = c.args in
+    past_answer_guard (entry_slots 85 a.members.now) (store_of a.s.now).installed a.anchor _ (sym c.guard_answer.ensures ∙ c.in_ok-guard_answer.was) in
     let here : let a = c.args in Here a.s.now a.anchor = past_guard _ _ (decoded_some _ c.requires) passed.1 in
     let once : has_duplicate (entry_slots 85 c.args.members.now) ≡ false = passed.0 in
     (here.has, once)
@@ -57,8 +60,8 @@ has_space-requires c =
 pub returns-then-not-has_space : goal.returns-then-not-has_space
 returns-then-not-has_space c =
     let passed : let a = c.args in
-    (has_duplicate (entry_slots 85 a.members.now) ≡ false) × (anchored_refusal (store_of a.s.now).installed a.anchor ≡ 0) = let a = c.args in
-    past_answer_guard (entry_slots 85 a.members.now) (store_of a.s.now).installed a.anchor _ c.guard_answer-n.ensures c.if-n-ne0.false in
+    (has_duplicate (entry_slots 85 a.members.now) ≡ false) × (anchored_refusal (store_of a.s.now).installed a.anchor ≡ Ok tt) = let a = c.args in
+    past_answer_guard (entry_slots 85 a.members.now) (store_of a.s.now).installed a.anchor _ (sym c.guard_answer.ensures ∙ c.in_ok-guard_answer.was) in
     let here : let a = c.args in Here a.s.now a.anchor = past_guard _ _ (decoded_some _ c.requires) passed.1 in
     let once : has_duplicate (entry_slots 85 c.args.members.now) ≡ false = passed.0 in
     let taken : let a = c.args in all_taken (entry_slots 85 a.members.now) (generation_of a.s.now).pending ≡ true = sym c.all_taken.ensures ∙ c.if-not-all_taken.false in
@@ -70,8 +73,8 @@ returns-then-not-has_space c =
 pub finish-requires : goal.finish-requires
 finish-requires c =
     let passed : let a = c.args in
-    (has_duplicate (entry_slots 85 a.members.now) ≡ false) × (anchored_refusal (store_of a.s.now).installed a.anchor ≡ 0) = let a = c.args in
-    past_answer_guard (entry_slots 85 a.members.now) (store_of a.s.now).installed a.anchor _ c.guard_answer-n.ensures c.if-n-ne0.false in
+    (has_duplicate (entry_slots 85 a.members.now) ≡ false) × (anchored_refusal (store_of a.s.now).installed a.anchor ≡ Ok tt) = let a = c.args in
+    past_answer_guard (entry_slots 85 a.members.now) (store_of a.s.now).installed a.anchor _ (sym c.guard_answer.ensures ∙ c.in_ok-guard_answer.was) in
     let here : let a = c.args in Here a.s.now a.anchor = past_guard _ _ (decoded_some _ c.requires) passed.1 in
     let once : has_duplicate (entry_slots 85 c.args.members.now) ≡ false = passed.0 in
     let taken : let a = c.args in all_taken (entry_slots 85 a.members.now) (generation_of a.s.now).pending ≡ true = sym c.all_taken.ensures ∙ c.if-not-all_taken.false in
@@ -80,8 +83,8 @@ finish-requires c =
 pub returns : goal.returns
 returns c =
     let passed : let a = c.args in
-    (has_duplicate (entry_slots 85 a.members.now) ≡ false) × (anchored_refusal (store_of a.s.now).installed a.anchor ≡ 0) = let a = c.args in
-    past_answer_guard (entry_slots 85 a.members.now) (store_of a.s.now).installed a.anchor _ c.guard_answer-n.ensures c.if-n-ne0.false in
+    (has_duplicate (entry_slots 85 a.members.now) ≡ false) × (anchored_refusal (store_of a.s.now).installed a.anchor ≡ Ok tt) = let a = c.args in
+    past_answer_guard (entry_slots 85 a.members.now) (store_of a.s.now).installed a.anchor _ (sym c.guard_answer.ensures ∙ c.in_ok-guard_answer.was) in
     let here : let a = c.args in Here a.s.now a.anchor = past_guard _ _ (decoded_some _ c.requires) passed.1 in
     let a = c.args in
     at_its_anchor a.s.now a.anchor here (answer (members_of a.members.now)) c.finish.ensures

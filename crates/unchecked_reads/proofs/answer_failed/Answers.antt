@@ -1,4 +1,6 @@
 -- `unchecked_reads::answer_failed` meets its contract. Assumes nothing.
+use Rattle.std.specs.Prelude.{Ok}
+use Rattle.std.proofs.lemmas.Result.{err_from_is_err_and}
 use Prim.Native.Nat.{◌/◌}
 use mathlib.Core.Path.{◌≡◌, sym, ap, ◌∙◌}
 use mathlib.Core.Bool.{true, false}
@@ -23,28 +25,29 @@ use Rattle.unchecked_reads.proofs.Said.{stepped, by_answer_guard, past_answer_gu
 use Rattle.unchecked_reads.proofs.Counts.{stepped_as, failed_answerable, failed_totals, failed_says}
 use Rattle.unchecked_reads.proofs.answer_failed.Goals as goal
 
-pub guard_answer-n-requires : goal.guard_answer-n-requires
-guard_answer-n-requires c = (decoded_some _ c.requires, omega arith)
+pub guard_answer-requires : goal.guard_answer-requires
+guard_answer-requires c = (decoded_some _ c.requires, omega arith)
 
-pub returns-then-n-ne0 : goal.returns-then-n-ne0
-returns-then-n-ne0 c =
+pub returns-in_err-guard_answer : goal.returns-in_err-guard_answer
+returns-in_err-guard_answer c =
     let a = c.args in
-    stepped (by_answer_guard a.s.now a.anchor (answer_failed (slots_of a.slots.now)) 0 (entry_slots 52 a.slots.now) (sym (entry_slots_alone a.slots.now))
-    (decoded_some _ c.requires) _ c.guard_answer-n.ensures c.if-n-ne0.true)
+    let p = err_from_is_err_and c.from_residual.result c.from_residual.ensures.1 in
+    rw (p.1, p.2) (stepped (by_answer_guard a.s.now a.anchor (answer_failed (slots_of a.slots.now)) 0 (entry_slots 52 a.slots.now) (sym (entry_slots_alone a.slots.now))
+    (decoded_some _ c.requires) _ (sym c.guard_answer.ensures ∙ c.in_err-guard_answer.was)))
 
 pub all_taken-requires : goal.all_taken-requires
 all_taken-requires c =
     let passed : let a = c.args in
-    (has_duplicate (entry_slots 52 a.slots.now) ≡ false) × (anchored_refusal (store_of a.s.now).installed a.anchor ≡ 0) = let a = c.args in
-    past_answer_guard (entry_slots 52 a.slots.now) (store_of a.s.now).installed a.anchor _ c.guard_answer-n.ensures c.if-n-ne0.false in
+    (has_duplicate (entry_slots 52 a.slots.now) ≡ false) × (anchored_refusal (store_of a.s.now).installed a.anchor ≡ Ok tt) = let a = c.args in
+    past_answer_guard (entry_slots 52 a.slots.now) (store_of a.s.now).installed a.anchor _ (sym c.guard_answer.ensures ∙ c.in_ok-guard_answer.was) in
     let here : let a = c.args in Here a.s.now a.anchor = past_guard _ _ (decoded_some _ c.requires) passed.1 in
     (here.has, omega arith)
 
 pub returns-then-not-all_taken : goal.returns-then-not-all_taken
 returns-then-not-all_taken c =
     let passed : let a = c.args in
-    (has_duplicate (entry_slots 52 a.slots.now) ≡ false) × (anchored_refusal (store_of a.s.now).installed a.anchor ≡ 0) = let a = c.args in
-    past_answer_guard (entry_slots 52 a.slots.now) (store_of a.s.now).installed a.anchor _ c.guard_answer-n.ensures c.if-n-ne0.false in
+    (has_duplicate (entry_slots 52 a.slots.now) ≡ false) × (anchored_refusal (store_of a.s.now).installed a.anchor ≡ Ok tt) = let a = c.args in
+    past_answer_guard (entry_slots 52 a.slots.now) (store_of a.s.now).installed a.anchor _ (sym c.guard_answer.ensures ∙ c.in_ok-guard_answer.was) in
     let here : let a = c.args in Here a.s.now a.anchor = past_guard _ _ (decoded_some _ c.requires) passed.1 in
     let once : has_duplicate (slots_of c.args.slots.now) ≡ false = ap has_duplicate (sym (entry_slots_alone _)) ∙ passed.0 in
     let a = c.args in
@@ -55,24 +58,24 @@ returns-then-not-all_taken c =
 pub woken-w-requires : goal.woken-w-requires
 woken-w-requires c =
     let passed : let a = c.args in
-    (has_duplicate (entry_slots 52 a.slots.now) ≡ false) × (anchored_refusal (store_of a.s.now).installed a.anchor ≡ 0) = let a = c.args in
-    past_answer_guard (entry_slots 52 a.slots.now) (store_of a.s.now).installed a.anchor _ c.guard_answer-n.ensures c.if-n-ne0.false in
+    (has_duplicate (entry_slots 52 a.slots.now) ≡ false) × (anchored_refusal (store_of a.s.now).installed a.anchor ≡ Ok tt) = let a = c.args in
+    past_answer_guard (entry_slots 52 a.slots.now) (store_of a.s.now).installed a.anchor _ (sym c.guard_answer.ensures ∙ c.in_ok-guard_answer.was) in
     let here : let a = c.args in Here a.s.now a.anchor = past_guard _ _ (decoded_some _ c.requires) passed.1 in
     (here.has, omega arith, passed.0)
 
 pub remove_all-requires : goal.remove_all-requires
 remove_all-requires c =
     let passed : let a = c.args in
-    (has_duplicate (entry_slots 52 a.slots.now) ≡ false) × (anchored_refusal (store_of a.s.now).installed a.anchor ≡ 0) = let a = c.args in
-    past_answer_guard (entry_slots 52 a.slots.now) (store_of a.s.now).installed a.anchor _ c.guard_answer-n.ensures c.if-n-ne0.false in
+    (has_duplicate (entry_slots 52 a.slots.now) ≡ false) × (anchored_refusal (store_of a.s.now).installed a.anchor ≡ Ok tt) = let a = c.args in
+    past_answer_guard (entry_slots 52 a.slots.now) (store_of a.s.now).installed a.anchor _ (sym c.guard_answer.ensures ∙ c.in_ok-guard_answer.was) in
     let here : let a = c.args in Here a.s.now a.anchor = past_guard _ _ (decoded_some _ c.requires) passed.1 in
     (here.has, omega arith)
 
 pub record_answer-requires : goal.record_answer-requires
 record_answer-requires c =
     let passed : let a = c.args in
-    (has_duplicate (entry_slots 52 a.slots.now) ≡ false) × (anchored_refusal (store_of a.s.now).installed a.anchor ≡ 0) = let a = c.args in
-    past_answer_guard (entry_slots 52 a.slots.now) (store_of a.s.now).installed a.anchor _ c.guard_answer-n.ensures c.if-n-ne0.false in
+    (has_duplicate (entry_slots 52 a.slots.now) ≡ false) × (anchored_refusal (store_of a.s.now).installed a.anchor ≡ Ok tt) = let a = c.args in
+    past_answer_guard (entry_slots 52 a.slots.now) (store_of a.s.now).installed a.anchor _ (sym c.guard_answer.ensures ∙ c.in_ok-guard_answer.was) in
     let here : let a = c.args in Here a.s.now a.anchor = past_guard _ _ (decoded_some _ c.requires) passed.1 in
     let removed : let a = c.args in
     c.remove_all.new.s ≡ overlay (awaited (store_of a.s.now).config (generation_of a.s.now) (remove_all_pending (slots_of a.slots.now) (generation_of a.s.now).pending)) a.s.now = let a = c.args in
@@ -93,8 +96,8 @@ record_answer-requires c =
 pub returns : goal.returns
 returns c =
     let passed : let a = c.args in
-    (has_duplicate (entry_slots 52 a.slots.now) ≡ false) × (anchored_refusal (store_of a.s.now).installed a.anchor ≡ 0) = let a = c.args in
-    past_answer_guard (entry_slots 52 a.slots.now) (store_of a.s.now).installed a.anchor _ c.guard_answer-n.ensures c.if-n-ne0.false in
+    (has_duplicate (entry_slots 52 a.slots.now) ≡ false) × (anchored_refusal (store_of a.s.now).installed a.anchor ≡ Ok tt) = let a = c.args in
+    past_answer_guard (entry_slots 52 a.slots.now) (store_of a.s.now).installed a.anchor _ (sym c.guard_answer.ensures ∙ c.in_ok-guard_answer.was) in
     let here : let a = c.args in Here a.s.now a.anchor = past_guard _ _ (decoded_some _ c.requires) passed.1 in
     let once : has_duplicate (slots_of c.args.slots.now) ≡ false = ap has_duplicate (sym (entry_slots_alone _)) ∙ passed.0 in
     let taken : let a = c.args in all_taken (slots_of a.slots.now) (generation_of a.s.now).pending ≡ true = let a = c.args in

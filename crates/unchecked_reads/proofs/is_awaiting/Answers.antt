@@ -1,18 +1,10 @@
 -- `unchecked_reads::is_awaiting` meets its contract. Assumes nothing.
 use mathlib.Core.Path.{ap, ◌∙◌}
 use mathlib.Core.List.{List}
-use native.Mathlib.Omega.{arith}
 use Rattle.model.specs.Reads.{Pending, is_awaiting}
-use Rattle.layers.proofs.Header.{header_room}
 use Rattle.header.proofs.Segments.{known_bytes}
 use Rattle.unchecked_reads.proofs.Image.{asks_rising, reads_as}
 use Rattle.unchecked_reads.proofs.is_awaiting.Goals as goal
-
-pub slice_bounds-is_awaiting-count : goal.slice_bounds-is_awaiting-count
-slice_bounds-is_awaiting-count c = omega (arith, header_room _ c.requires.is_store)
-
-pub slice_bounds-is_awaiting-start : goal.slice_bounds-is_awaiting-start
-slice_bounds-is_awaiting-start c = omega (arith, header_room _ c.requires.is_store)
 
 pub is_awaiting-requires : goal.is_awaiting-requires
 is_awaiting-requires c =

@@ -13,12 +13,6 @@ use Rattle.unchecked_reads.proofs.Image.{asks, reads_as, new_number}
 use Rattle.image.specs.Lent.{generation_of}
 use Rattle.unchecked_reads.proofs.join.Goals as goal
 
-pub slice_bounds-join-count : goal.slice_bounds-join-count
-slice_bounds-join-count c = omega (arith, header_room _ c.requires.0.is_store)
-
-pub slice_bounds-join-start : goal.slice_bounds-join-start
-slice_bounds-join-start c = omega (arith, header_room _ c.requires.0.is_store)
-
 pub join-count-requires : goal.join-count-requires
 join-count-requires c =
     let s = c.args.s.now in

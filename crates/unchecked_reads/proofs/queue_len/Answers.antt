@@ -1,19 +1,11 @@
 -- `unchecked_reads::queue_len` meets its contract. Assumes nothing.
 use mathlib.Core.Path.{ap, ◌∙◌}
 use mathlib.Core.List.{List}
-use native.Mathlib.Omega.{arith}
 use lib.ListN.{length}
 use Rattle.model.specs.Reads.{Pending, queued}
-use Rattle.layers.proofs.Header.{header_room}
 use Rattle.header.proofs.Segments.{known_bytes}
 use Rattle.unchecked_reads.proofs.Image.{asks_rising, reads_as}
 use Rattle.unchecked_reads.proofs.queue_len.Goals as goal
-
-pub slice_bounds-queue_len-count : goal.slice_bounds-queue_len-count
-slice_bounds-queue_len-count c = omega (arith, header_room _ c.requires.is_store)
-
-pub slice_bounds-queue_len-start : goal.slice_bounds-queue_len-start
-slice_bounds-queue_len-start c = omega (arith, header_room _ c.requires.is_store)
 
 pub queue_len-requires : goal.queue_len-requires
 queue_len-requires c = (asks_rising c.args.s.now c.requires (known_bytes c.args.s.now c.type_inv.s) _ c.awaiting_count-n.ensures).room

@@ -15,26 +15,20 @@ use Rattle.awaiting.specs.Awaiting.{entry_slots}
 use Rattle.unchecked_reads.proofs.Image.{removed_few}
 use Rattle.unchecked_reads.proofs.remove_all.Goals as goal
 
-pub slice_bounds-remove_all-count : goal.slice_bounds-remove_all-count
-slice_bounds-remove_all-count c = omega (arith, header_room _ c.requires.0.is_store)
-
-pub slice_bounds-remove_all-start : goal.slice_bounds-remove_all-start
-slice_bounds-remove_all-start c = omega (arith, header_room _ c.requires.0.is_store)
-
 pub remove_all-count-requires : goal.remove_all-count-requires
-remove_all-count-requires c =
+remove_all-count-requires g c =
     let s = c.args.s.now in
     let f = known_bytes s c.slice_known-1.given in
     (asks s c.requires.0 f _ c.awaiting_count-n.ensures, c.requires.1)
 
 pub write_u64-requires : goal.write_u64-requires
-write_u64-requires c =
+write_u64-requires g c =
     let s = c.args.s.now in
     omega (arith, same_len_mid awaiting_offset (length s - awaiting_offset) s c.remove_all-count.new.s c.remove_all-count.auto.s, header_room s c.requires.0.is_store)
 
 pub returns : goal.returns
-returns c =
+returns g c =
     let s = c.args.s.now in
     let f = known_bytes s c.slice_known-1.given in
     let e = reads_as s c.requires.0 f _ c.awaiting_count-n.ensures in
-    new_number s c.requires.0 f _ c.awaiting_count-n.ensures (remove_all_pending (entry_slots c.args.stride c.args.list.now) (generation_of s).pending) _ c.remove_all-count.result _ _ c.remove_all-count.ensures (ap (λ (q : List Pending). remove_all_pending (entry_slots c.args.stride c.args.list.now) q) e) (removed_few s c.requires.0 (entry_slots c.args.stride c.args.list.now)) c.write_u64.ensures
+    new_number s c.requires.0 f _ c.awaiting_count-n.ensures (remove_all_pending (entry_slots g.row.STRIDE c.args.list.now) (generation_of s).pending) _ c.remove_all-count.result _ _ c.remove_all-count.ensures (ap (λ (q : List Pending). remove_all_pending (entry_slots g.row.STRIDE c.args.list.now) q) e) (removed_few s c.requires.0 (entry_slots g.row.STRIDE c.args.list.now)) c.write_u64.ensures

@@ -1,4 +1,5 @@
 -- `unchecked_reads::take` meets its contract. Assumes nothing.
+use Rattle.std.proofs.lemmas.Result.{err_from_is_err_and}
 use Prim.Native.Nat.{◌/◌, ◌≤◌, ◌<◌}
 use mathlib.Core.Path.{sym, ◌∙◌}
 use native.Mathlib.Omega.{arith}
@@ -12,35 +13,36 @@ use Rattle.unchecked_reads.proofs.Queue.{queued_fit}
 use Rattle.unchecked_reads.proofs.Said.{took_none, took, by_guard, said_27, said_take, none_twice}
 use Rattle.unchecked_reads.proofs.take.Goals as goal
 
-pub guard-n-requires : goal.guard-n-requires
-guard-n-requires c = decoded_some _ c.requires
+pub guard-requires : goal.guard-requires
+guard-requires c = decoded_some _ c.requires
 
-pub returns-then-n-ne0 : goal.returns-then-n-ne0
-returns-then-n-ne0 c =
+pub returns-in_err-guard : goal.returns-in_err-guard
+returns-in_err-guard c =
     let a = c.args in
-    took_none (by_guard a.s.now a.anchor take (length a.out.now / 52) none_twice (decoded_some _ c.requires) _ c.guard-n.ensures c.if-n-ne0.true)
+    let p = err_from_is_err_and c.from_residual.result c.from_residual.ensures.1 in
+    rw (p.1, p.2) (took_none (by_guard a.s.now a.anchor take (length a.out.now / 52) none_twice (decoded_some _ c.requires) _ (sym c.guard.ensures ∙ c.in_err-guard.was)))
 
 pub queue_len-requires : goal.queue_len-requires
 queue_len-requires c =
-    let here : let a = c.args in Here a.s.now a.anchor = past_guard _ _ (decoded_some _ c.requires) (sym c.guard-n.ensures ∙ c.if-n-ne0.false) in
+    let here : let a = c.args in Here a.s.now a.anchor = past_guard _ _ (decoded_some _ c.requires) (sym c.guard.ensures ∙ c.in_ok-guard.was) in
     here.has
 
 pub returns-then-out-queue_len : goal.returns-then-out-queue_len
 returns-then-out-queue_len c =
-    let here : let a = c.args in Here a.s.now a.anchor = past_guard _ _ (decoded_some _ c.requires) (sym c.guard-n.ensures ∙ c.if-n-ne0.false) in
+    let here : let a = c.args in Here a.s.now a.anchor = past_guard _ _ (decoded_some _ c.requires) (sym c.guard.ensures ∙ c.in_ok-guard.was) in
     let a = c.args in
     let z : length a.out.now / 52 < length (queued (generation_of a.s.now).pending) = omega (arith, c.queue_len.ensures, c.if-out-queue_len.true) in
     took_none (said_27 a.s.now a.anchor here (length a.out.now / 52) z)
 
 pub take_queued-requires : goal.take_queued-requires
 take_queued-requires c =
-    let here : let a = c.args in Here a.s.now a.anchor = past_guard _ _ (decoded_some _ c.requires) (sym c.guard-n.ensures ∙ c.if-n-ne0.false) in
+    let here : let a = c.args in Here a.s.now a.anchor = past_guard _ _ (decoded_some _ c.requires) (sym c.guard.ensures ∙ c.in_ok-guard.was) in
     let fits : let a = c.args in length (queued (generation_of a.s.now).pending) ≤ length a.out.now / 52 = omega (arith, c.queue_len.ensures, c.if-out-queue_len.false) in
     (here.has, omega (arith, fits))
 
 pub returns : goal.returns
 returns c =
-    let here : let a = c.args in Here a.s.now a.anchor = past_guard _ _ (decoded_some _ c.requires) (sym c.guard-n.ensures ∙ c.if-n-ne0.false) in
+    let here : let a = c.args in Here a.s.now a.anchor = past_guard _ _ (decoded_some _ c.requires) (sym c.guard.ensures ∙ c.in_ok-guard.was) in
     let fits : let a = c.args in length (queued (generation_of a.s.now).pending) ≤ length a.out.now / 52 = omega (arith, c.queue_len.ensures, c.if-out-queue_len.false) in
     let a = c.args in
     took (said_take a.s.now a.anchor here (length a.out.now / 52) fits) (queued_fit _ (generation_in a.s.now here.has).facts.pending_right) c.take_queued.ensures.0.count_is c.take_queued.ensures.1 c.take_queued.ensures.0.output_is

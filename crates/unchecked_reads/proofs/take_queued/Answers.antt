@@ -2,21 +2,13 @@
 use Prim.Native.Nat.{◌*◌, ◌≤◌}
 use mathlib.Core.Path.{sym, ap, subst, ◌∙◌}
 use mathlib.Core.List.{List}
-use native.Mathlib.Omega.{arith}
 use lib.ListN.{length}
 use Rattle.model.specs.Reads.{Pending, queued, take_queued}
 use Rattle.image.specs.Area.{with_pending}
 use Rattle.image.proofs.PendingOk.{length_take_queued}
-use Rattle.layers.proofs.Header.{header_room}
 use Rattle.header.proofs.Segments.{known_bytes}
 use Rattle.unchecked_reads.proofs.Image.{lists_as, area_lent, asks, reads_as, same_number}
 use Rattle.unchecked_reads.proofs.take_queued.Goals as goal
-
-pub slice_bounds-take_queued-count : goal.slice_bounds-take_queued-count
-slice_bounds-take_queued-count c = omega (arith, header_room _ c.requires.0.is_store)
-
-pub slice_bounds-take_queued-start : goal.slice_bounds-take_queued-start
-slice_bounds-take_queued-start c = omega (arith, header_room _ c.requires.0.is_store)
 
 pub take_queued-requires : goal.take_queued-requires
 take_queued-requires c =

@@ -1,18 +1,10 @@
 -- `unchecked_reads::waiters` meets its contract. Assumes nothing.
 use mathlib.Core.Path.{ap, ◌∙◌}
 use mathlib.Core.List.{List}
-use native.Mathlib.Omega.{arith}
 use Rattle.model.specs.Reads.{Pending, waiters_of}
-use Rattle.layers.proofs.Header.{header_room}
 use Rattle.header.proofs.Segments.{known_bytes}
 use Rattle.unchecked_reads.proofs.Image.{asks_rising, reads_as}
 use Rattle.unchecked_reads.proofs.waiters.Goals as goal
-
-pub slice_bounds-waiters-count : goal.slice_bounds-waiters-count
-slice_bounds-waiters-count c = omega (arith, header_room _ c.requires.is_store)
-
-pub slice_bounds-waiters-start : goal.slice_bounds-waiters-start
-slice_bounds-waiters-start c = omega (arith, header_room _ c.requires.is_store)
 
 pub waiters-requires : goal.waiters-requires
 waiters-requires c =

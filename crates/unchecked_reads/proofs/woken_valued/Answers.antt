@@ -1,19 +1,11 @@
 -- `unchecked_reads::woken_valued` meets its contract. Assumes nothing.
 use mathlib.Core.Path.{ap, ◌∙◌}
 use mathlib.Core.List.{List}
-use native.Mathlib.Omega.{arith}
 use Rattle.model.specs.Reads.{Pending, woken, valued_slots}
 use Rattle.model.specs.Entries.{members_of}
-use Rattle.layers.proofs.Header.{header_room}
 use Rattle.header.proofs.Segments.{known_bytes}
 use Rattle.unchecked_reads.proofs.Image.{asks, reads_as}
 use Rattle.unchecked_reads.proofs.woken_valued.Goals as goal
-
-pub slice_bounds-woken_valued-count : goal.slice_bounds-woken_valued-count
-slice_bounds-woken_valued-count c = omega (arith, header_room _ c.requires.0.is_store)
-
-pub slice_bounds-woken_valued-start : goal.slice_bounds-woken_valued-start
-slice_bounds-woken_valued-start c = omega (arith, header_room _ c.requires.0.is_store)
 
 pub woken_valued-requires : goal.woken_valued-requires
 woken_valued-requires c =

@@ -1,18 +1,14 @@
 -- `words::move_down` meets its contract.
-use borrow.Author.Rules.{rules}
 use native.Mathlib.Omega.{arith}
-use mathlib.Core.Path.{◌≡◌, refl, ap, ◌∙◌}
+use mathlib.Core.Path.{◌≡◌, ap, ◌∙◌}
 use mathlib.Core.List.{List}
 use Prim.Native.Nat.{ℕ, ◌+◌, ◌-◌}
 use native.Mathlib.Numerals.{add-one}
-use lib.ListN.{length, drop, get_or, set, length-set, length-drop}
-use lib.Seq.{paste, paste-zero, paste-suc, length-take-le}
+use lib.ListN.{length, drop, get_or, set, length-drop}
+use lib.Seq.{paste, paste-suc, length-take-le}
 use Rattle.words.specs.Parts.{part}
-use Rattle.words.proofs.Pasting.{pasted, moved_read}
+use Rattle.words.proofs.Pasting.{moved_read}
 use Rattle.words.proofs.move_down.Goals as goal
-
-pub loop-j-init : goal.loop-j-init
-loop-j-init c = let a = c.args in (search rules, refl, paste-zero a.s.now a.at (part (a.at + a.by) a.n a.s.now))
 
 pub loop-j-preserved : goal.loop-j-preserved
 loop-j-preserved c = let l = c.loop-j in
@@ -20,21 +16,7 @@ loop-j-preserved c = let l = c.loop-j in
     let s = a.s.now in
     let p = part (a.at + a.by) a.n s in
     let m : length (drop (a.at + a.by) s) ≡ length s - (a.at + a.by) = length-drop (a.at + a.by) s in
-    let h : length p ≡ a.n = length-take-le a.n (drop (a.at + a.by) s) (omega arith) in (
-      search rules,
-      simp length-set l.invariant.1,
-      rw add-one (ap (λ (x : List ℕ). set x (a.at + l.j) (get_or x (a.at + a.by + l.j) 0)) l.invariant.2
-          ∙ ap (set (paste s a.at p l.j) (a.at + l.j)) (moved_read s a.at a.by a.n l.j (omega arith) (omega arith))
-          ∙ paste-suc s a.at p l.j 0 (omega arith) (omega arith)),
-    )
-
-pub shape_of-s : goal.shape_of-s
-shape_of-s c = c.loop-j.invariant.1
-
-pub returns : goal.returns
-returns c = let l = c.loop-j in
-    let a = c.args in
-    let s = a.s.now in
-    let m : length (drop (a.at + a.by) s) ≡ length s - (a.at + a.by) = length-drop (a.at + a.by) s in
-    let h : length (part (a.at + a.by) a.n s) ≡ a.n = length-take-le a.n (drop (a.at + a.by) s) (omega arith) in
-    l.invariant.2 ∙ pasted s a.at (part (a.at + a.by) a.n s) l.j (omega arith)
+    let h : length p ≡ a.n = length-take-le a.n (drop (a.at + a.by) s) (omega arith) in
+    rw add-one (ap (λ (x : List ℕ). set x (a.at + l.j) (get_or x (a.at + a.by + l.j) 0)) l.invariant
+    ∙ ap (set (paste s a.at p l.j) (a.at + l.j)) (moved_read s a.at a.by a.n l.j (omega arith) (omega arith))
+    ∙ paste-suc s a.at p l.j 0 (omega arith) (omega arith))

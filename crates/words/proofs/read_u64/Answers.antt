@@ -1,8 +1,8 @@
--- `words::read_u64` meets its contract. Assumes nothing.
-use native.Mathlib.Omega.{arith}
-use Rattle.words.proofs.Numbers.{num_join}
+-- `words::read_u64` meets its contract.
+use Rattle.std.proofs.Common.{arith}
+use Rattle.std.proofs.lemmas.Grind.{common_steps}
+use Rattle.words.proofs.Numbers.{from_eight}
 use Rattle.words.proofs.read_u64.Goals as goal
 
 pub returns : goal.returns
-returns c = let a = c.args in
-    omega (arith, num_join a.at 4 4 a.s.now (omega arith))
+returns c = grind (arith, common_steps, from_eight)

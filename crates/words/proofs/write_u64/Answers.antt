@@ -1,12 +1,9 @@
--- `words::write_u64` meets its contract. Assumes nothing.
-use borrow.Author.Rules.{rules}
-use Prim.Native.Nat.{ℕ}
-use mathlib.Core.Path.{◌≡◌, sym, ap, ◌∙◌}
-use Rattle.model.specs.Numbers.{be}
-use Rattle.words.specs.Parts.{placed}
+-- `words::write_u64` meets its contract.
+use mathlib.Core.Path.{◌∙◌}
+use Rattle.words.proofs.Places.{placed_bytes}
 use Rattle.words.proofs.write_u64.Goals as goal
 
-pub returns-then-x-eq0 : goal.returns-then-x-eq0
-returns-then-x-eq0 c = let a = c.args in
-    let e : a.x ≡ 0 = search rules in
-    c.write_bytes.ensures ∙ ap (λ (n : ℕ). placed a.at (be 8 n) a.s.now) (sym e)
+pub returns : goal.returns
+returns c =
+    let a = c.args in
+    placed_bytes a.at 8 a.x a.s.now _ (c.copy_from_slice.ensures.after ∙ c.to_be_bytes.ensures)

@@ -1,9 +1,0 @@
--- What is left falls.
-use Rattle.std.proofs.Common.{◌-◌, ◌≤◌}
-use Rattle.gate_recorded_calls.proofs.print_applied.Given as goal
-
-abbrev pub invariant-loop-i : goal.invariant-loop-i
-invariant-loop-i g l = l.i ≤ l.n
-
-abbrev pub decreases-loop-i : goal.decreases-loop-i
-decreases-loop-i g l = l.n - l.i
