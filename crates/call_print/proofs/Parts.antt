@@ -1,5 +1,5 @@
 -- What a run's answer says of the part that it makes. Assumes nothing.
-use Rattle.std.specs.Prelude.{Option, None, Some, is_some}
+use Rattle.std.specs.Prelude.{Option, None, Some, Ok, Err, is_some}
 use Prim.Native.Nat.{ℕ, suc, ◌-◌, ◌<◌}
 use mathlib.Core.Path.{◌≡◌, refl, sym, ap, subst, ◌∙◌}
 use mathlib.Core.Bool.{true, false, true≢false}
@@ -8,8 +8,9 @@ use native.Mathlib.Omega.{arith}
 use borrow.Author.Tests.{leb-true, leb-false}
 use lib.ListN.{length}
 use Rattle.reader.specs.declared.Cursor.{Cursor}
-use Rattle.call_run.specs.declared.RunReply.{RunReply}
-use Rattle.call_run.specs.declared.RunReply.TheVariants.{Refused, Listed, Broken}
+use Rattle.model.specs.declared.refusal.Refusal.{Refusal}
+use Rattle.call_run.specs.Run.{RunReply}
+use Rattle.call_run.specs.declared.RunEnd.TheVariants.{Listed, Broken}
 use Rattle.call_run.specs.Run.{too_short, RunTo, RanAs}
 use Rattle.call_run.specs.Program.{last_run, broken_run}
 use Rattle.call_run.proofs.Room.{long_enough}
@@ -24,9 +25,9 @@ place (Some n) = n
 
 module _ (w e : ℕ) (list : List ℕ) (from : ℕ) (members before out after out_after : List ℕ) (r : RunReply) (h : RanAs r w e list from members before out after out_after) where
   -- A run to the list's end.
-  pub part_last : (next : Cursor) (written : ℕ) → r ≡ Listed next written true → PartAs (record { next = None; written = written }) w e list from before out after out_after
+  pub part_last : (next : Cursor) (written : ℕ) → r ≡ Ok (Listed next written true) → PartAs (record { next = None; written = written }) w e list from before out after out_after
   part_last next written q =
-      let k : RanAs (Listed next written true) w e list from members before out after out_after = subst (λ (x : RunReply). RanAs x w e list from members before out after out_after) q h in
+      let k : RanAs (Ok (Listed next written true)) w e list from members before out after out_after = subst (λ (x : RunReply). RanAs x w e list from members before out after out_after) q h in
       let u : RunTo w e list from next.at None written before out after out_after = k.1 in
       record {
         last_is = λ x. last_run u (leb-true (length list) next.at (sym k.2));
@@ -35,10 +36,10 @@ module _ (w e : ℕ) (list : List ℕ) (from : ℕ) (members before out after ou
       }
 
   -- A run that stopped before it.
-  pub part_more : (next : Cursor) (written : ℕ) → r ≡ Listed next written false → PartAs (record { next = Some next.at; written = written }) w e list from before out after out_after
+  pub part_more : (next : Cursor) (written : ℕ) → r ≡ Ok (Listed next written false) → PartAs (record { next = Some next.at; written = written }) w e list from before out after out_after
   unfolding place
   part_more next written q =
-      let k : RanAs (Listed next written false) w e list from members before out after out_after = subst (λ (x : RunReply). RanAs x w e list from members before out after out_after) q h in
+      let k : RanAs (Ok (Listed next written false)) w e list from members before out after out_after = subst (λ (x : RunReply). RanAs x w e list from members before out after out_after) q h in
       let u : RunTo w e list from next.at None written before out after out_after = k.1 in
       record {
         last_is = λ x. absurd (true≢false (ap (λ (o : Option ℕ). is_some o) x));
@@ -48,9 +49,9 @@ module _ (w e : ℕ) (list : List ℕ) (from : ℕ) (members before out after ou
       }
 
   -- A run that a fault ended.
-  pub part_broken : (n : ℕ) (place : Cursor) (written : ℕ) → r ≡ Broken n place written → PartAs (record { next = None; written = written }) w e list from before out after out_after
+  pub part_broken : (n : ℕ) (place : Cursor) (written : ℕ) → r ≡ Ok (Broken n place written) → PartAs (record { next = None; written = written }) w e list from before out after out_after
   part_broken n place written q =
-      let k : RanAs (Broken n place written) w e list from members before out after out_after = subst (λ (x : RunReply). RanAs x w e list from members before out after out_after) q h in
+      let k : RanAs (Ok (Broken n place written)) w e list from members before out after out_after = subst (λ (x : RunReply). RanAs x w e list from members before out after out_after) q h in
       let u = k.1.1 in
       record {
         last_is = λ x. broken_run u k.1.2;
@@ -59,9 +60,9 @@ module _ (w e : ℕ) (list : List ℕ) (from : ℕ) (members before out after ou
       }
 
   -- A run is not refused where the areas are long enough.
-  pub part_refused : (n : ℕ) (p : Part) → r ≡ Refused n → too_short list members out ≡ false → PartAs p w e list from before out after out_after
+  pub part_refused : (n : Refusal) (p : Part) → r ≡ Err n → too_short list members out ≡ false → PartAs p w e list from before out after out_after
   part_refused n p q g =
-      let k : RanAs (Refused n) w e list from members before out after out_after = subst (λ (x : RunReply). RanAs x w e list from members before out after out_after) q h in
+      let k : RanAs (Err n) w e list from members before out after out_after = subst (λ (x : RunReply). RanAs x w e list from members before out after out_after) q h in
       absurd (true≢false (sym k.1 ∙ g))
 
 -- What is left of a list of n bytes from a next place on, and that it falls.

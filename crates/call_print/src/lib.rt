@@ -5,7 +5,7 @@ ghost use Rattle.std.specs.Prelude.{◌≡◌, false, ◌/◌, ◌≤◌, length
 ghost use Rattle.call_run.specs.Run.{too_short};
 ghost use Rattle.call_print.specs.Part.{PartAs};
 
-use call_run::RunReply;
+use call_run::RunEnd;
 use reader::Cursor;
 use std::io;
 use std::io::{Read, Write};
@@ -34,23 +34,27 @@ fn run_part(
     ensures { PartAs result (length work.old) (length entries.old / 52) list.now from s.old out.old s.new out.new }
 {
     match call_run::run(list, Cursor { at: from }, s, work, entries, members, out) {
-        RunReply::Refused(_) => Part {
+        Err(_) => Part {
             next: None,
             written: 0,
         },
-        RunReply::Listed {
-            next,
-            written,
-            ended,
-        } => {
+        Ok(
+            RunEnd::Listed {
+                next,
+                written,
+                ended,
+            },
+        ) => {
             let next = if ended { None } else { Some(next.at) };
             Part { next, written }
         }
-        RunReply::Broken {
-            fault: _,
-            place: _,
-            written,
-        } => Part {
+        Ok(
+            RunEnd::Broken {
+                fault: _,
+                place: _,
+                written,
+            },
+        ) => Part {
             next: None,
             written,
         },

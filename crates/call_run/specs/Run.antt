@@ -1,5 +1,6 @@
 -- The run of a call list from a place on, as far as an output goes.
-use Rattle.std.specs.Prelude.{ℕ, ◌+◌, ◌*◌, ◌/◌, ◌≤◌, ◌<◌, ◌≡◌, Bool, true, false, ◌||◌, List, [], ◌∷◌, ◌++◌, leb, ltb, length, take, drop, None, Option, Some}
+use Rattle.std.specs.Prelude.{ℕ, ◌+◌, ◌*◌, ◌/◌, ◌≤◌, ◌<◌, ◌≡◌, Bool, true, false, ◌||◌, List, [], ◌∷◌, ◌++◌, leb, ltb, length, take, drop, None, Option, Some, Ok, Err}
+use Rattle.std.specs.declared.result.Result.{Result}
 use Rattle.image.specs.Image.{BytesCall, bytes_step, bytes_trace, bytes_final}
 use Rattle.call_list.specs.Listed.{ListedCall}
 use Rattle.call_list.specs.Meaning.{default_limits}
@@ -7,8 +8,10 @@ use Rattle.call_list.specs.CallList.{parsed, fault, parse_call}
 use Rattle.call_list.specs.Listing.{answer_lines, answers_lines, end_line}
 use Rattle.call_laws.specs.Runs.{lent_each}
 use Rattle.call_progress.specs.Progress.{call_lines}
-use Rattle.call_run.specs.declared.RunReply.{RunReply}
-use Rattle.call_run.specs.declared.RunReply.TheVariants.{Refused, Listed, Broken}
+use Rattle.model.specs.declared.refusal.Refusal.{Refusal}
+use Rattle.model.specs.Refusals.{refusal_number}
+use Rattle.call_run.specs.declared.RunEnd.{RunEnd}
+use Rattle.call_run.specs.declared.RunEnd.TheVariants.{Listed, Broken}
 
 -- The room that a run asks for a call's lines is enough for those of every call.
 abbrev pub LinesFit : Type 0
@@ -42,14 +45,17 @@ pub record RunTo (w e : ℕ) (list : List ℕ) (from next : ℕ) (ends_with : Op
   pub written_within : written ≤ length out
   pub same_length : length out_after ≡ length out
 
+abbrev pub RunReply : Type 0
+RunReply = Result RunEnd Refusal
+
 -- A run was refused with nothing changed; or it stopped at the list's end, or before it for want of room for another call's lines; or at a fault.
 abbrev pub RanAs : RunReply → ℕ → ℕ → List ℕ → ℕ → List ℕ → List ℕ → List ℕ → List ℕ → List ℕ → Type 0
-RanAs (Refused n) w e list from members before out after out_after = (n ≡ 9) × (too_short list members out ≡ true) × (after ≡ before) × (out_after ≡ out)
-RanAs (Listed next written ended) w e list from members before out after out_after =
+RanAs (Err r) w e list from members before out after out_after = (refusal_number r ≡ 9) × (too_short list members out ≡ true) × (after ≡ before) × (out_after ≡ out)
+RanAs (Ok (Listed next written ended)) w e list from members before out after out_after =
     (too_short list members out ≡ false)
     × RunTo w e list from next.at None written before out after out_after
     × (ended ≡ leb (length list) next.at)
     × (ended ≡ false → length out < written + call_lines)
-RanAs (Broken n place written) w e list from members before out after out_after =
+RanAs (Ok (Broken n place written)) w e list from members before out after out_after =
     (too_short list members out ≡ false)
     × ((at : ℕ) × RunTo w e list from at (Some n) written before out after out_after × FaultAt list at n place.at)

@@ -9,12 +9,12 @@ ghost use Rattle.call_run.specs.Program.{ProgramPrints};
 
 pub use call_progress::CALL_LINES;
 use call_progress::Progress;
+use model::refusal::Refusal;
 use reader::{Cursor, Fault, Reader};
 
-// A run's reply: 9; or the place of the next call, the bytes written and whether the list has ended; or the fault that ended the list, its place and the bytes written.
+// Where a run stopped: the place of the next call, the bytes written and whether the list has ended; or the fault that ended the list, its place and the bytes written.
 #[derive(Clone, Copy)]
-pub enum RunReply {
-    Refused(u64),
+pub enum RunEnd {
     Listed {
         next: Cursor,
         written: usize,
@@ -26,6 +26,9 @@ pub enum RunReply {
         written: usize,
     },
 }
+
+// Refused by 9 alone.
+pub type RunReply = Result<RunEnd, Refusal>;
 
 // One call and its lines.
 fn run_call(
@@ -97,7 +100,7 @@ pub fn run(
     ensures { RanAs result (length work.old) (length entries.old / 52) list.now from.at members.old s.old out.old s.new out.new }
 {
     if too_short(list, members, out) {
-        return RunReply::Refused(9);
+        return Err(Refusal::LentTooShort);
     }
     let first = Progress {
         next: from.at,
@@ -108,17 +111,17 @@ pub fn run(
     };
     let last = run_calls(list, first, s, work, entries, members, out);
     if let Some(fault) = last.fault {
-        return RunReply::Broken {
+        return Ok(RunEnd::Broken {
             fault: u64::from(fault.kind),
             place: fault.place,
             written: last.at,
-        };
+        });
     }
-    RunReply::Listed {
+    Ok(RunEnd::Listed {
         next: Cursor { at: last.next },
         written: last.at,
         ended: last.ended,
-    }
+    })
 }
 
 // Every call's lines fit in `CALL_LINES` bytes. The contract is what is claimed, so that the gate fails without the proof.

@@ -5,7 +5,7 @@
 ghost use Rattle.std.specs.Prelude.{◌≤◌, ◌<◌, length, IfOk};
 
 use call_reader::ListedCall;
-use call_run::RunReply;
+use call_run::RunEnd;
 use reader::{Cursor, Fault, Reader};
 use std::io::Read;
 use std::{fs, io};
@@ -98,17 +98,21 @@ fn print_call(rt: &impl Print, call: &[u8], s: &mut [u8]) -> io::Result<bool> {
         &mut members,
         &mut out,
     ) {
-        RunReply::Refused(_) => Ok(false),
-        RunReply::Listed {
-            next: _,
-            written,
-            ended: _,
-        } => print_lines(rt, &out, written),
-        RunReply::Broken {
-            fault: _,
-            place: _,
-            written,
-        } => print_lines(rt, &out, written),
+        Err(_) => Ok(false),
+        Ok(
+            RunEnd::Listed {
+                next: _,
+                written,
+                ended: _,
+            },
+        ) => print_lines(rt, &out, written),
+        Ok(
+            RunEnd::Broken {
+                fault: _,
+                place: _,
+                written,
+            },
+        ) => print_lines(rt, &out, written),
     }
 }
 

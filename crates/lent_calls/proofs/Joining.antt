@@ -10,7 +10,7 @@ use Rattle.image.specs.Output.{output_after}
 use Rattle.replies.specs.Replies.{AdvanceReply}
 use Rattle.replies.specs.Replies.{TakeReply}
 use Rattle.replies.specs.Replies.{Stepped, Took, AdvancedAs}
-use Rattle.call_run.specs.declared.RunReply.{RunReply}
+use Rattle.call_run.specs.Run.{RunReply}
 use Rattle.call_run.specs.Run.{RanAs}
 use Rattle.final_writes.specs.FinalWrites.{FinalWrites}
 use Rattle.final_writes.specs.Lent.{FinalWritesReply, final_writes_reply, Answers}

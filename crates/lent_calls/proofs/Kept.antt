@@ -1,5 +1,5 @@
 -- Bytes that are a store are one after an answer with any members, and after a run. Assumes nothing.
-use Rattle.std.specs.Prelude.{None, Option, Some, is_some}
+use Rattle.std.specs.Prelude.{None, Option, Some, Ok, Err, is_some}
 use Prim.Native.Nat.{ℕ}
 use mathlib.Core.Path.{◌≡◌, refl, ap, ◌∙◌}
 use mathlib.Core.Bool.{Bool, true, false, cond}
@@ -21,8 +21,8 @@ use Rattle.call_list.specs.Listed.{ListedCall}
 use Rattle.call_list.specs.Meaning.{default_limits, meaning}
 use Rattle.call_laws.specs.Runs.{lent_each}
 use Rattle.call_laws.proofs.Parses.{ReadOn, parsed_call}
-use Rattle.call_run.specs.declared.RunReply.{RunReply}
-use Rattle.call_run.specs.declared.RunReply.TheVariants.{Refused, Listed, Broken}
+use Rattle.call_run.specs.Run.{RunReply}
+use Rattle.call_run.specs.declared.RunEnd.TheVariants.{Listed, Broken}
 use Rattle.call_run.specs.Run.{CallsTo, no_call, call_then, RunTo, RanAs}
 use Rattle.lent_calls.specs.Exported.{Keeps}
 
@@ -68,6 +68,6 @@ module _ (w e : ℕ) (list : List ℕ) (f : Bytes list) where
   run_to_keeps {before = before} r s = ap (λ (x : List ℕ). is_some (decode x)) r.bytes_are ∙ calls_keep before r.calls_are s
 
   pub run_keeps : (r : RunReply) (from : ℕ) (members before out after out_after : List ℕ) → RanAs r w e list from members before out after out_after → Keeps before after
-  run_keeps (Refused n) from members before out after out_after h s = ap (λ (x : List ℕ). is_some (decode x)) h.2 ∙ s
-  run_keeps (Listed next written ended) from members before out after out_after h s = run_to_keeps h.1 s
-  run_keeps (Broken n place written) from members before out after out_after h s = run_to_keeps h.1.1 s
+  run_keeps (Err n) from members before out after out_after h s = ap (λ (x : List ℕ). is_some (decode x)) h.2 ∙ s
+  run_keeps (Ok (Listed next written ended)) from members before out after out_after h s = run_to_keeps h.1 s
+  run_keeps (Ok (Broken n place written)) from members before out after out_after h s = run_to_keeps h.1.1 s

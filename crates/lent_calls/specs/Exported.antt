@@ -3,7 +3,7 @@ use Rattle.std.specs.Prelude.{ℕ, ◌≡◌, Bool, true, false, cond, List, leb
 use Rattle.model.specs.Refusals.{refuse}
 use Rattle.image.specs.Image.{BytesResult, decode}
 use Rattle.image.specs.Output.{output_after}
-use Rattle.call_run.specs.declared.RunReply.{RunReply}
+use Rattle.call_run.specs.Run.{RunReply}
 use Rattle.call_run.specs.Run.{RanAs}
 use Rattle.final_writes.specs.FinalWrites.{FinalWrites}
 use Rattle.final_writes.specs.FinalWrites as final

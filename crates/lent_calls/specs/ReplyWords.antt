@@ -1,15 +1,15 @@
 -- What an exported call gives: a number, and words of eight bytes at the beginning of its lent reply.
-use Rattle.std.specs.Prelude.{ℕ, ◌≡◌, List, [], ◌∷◌, ◌++◌, length, None, Option, Some}
+use Rattle.std.specs.Prelude.{ℕ, ◌≡◌, List, [], ◌∷◌, ◌++◌, length, None, Option, Some, Ok, Err}
 use Rattle.model.specs.declared.read_hub.CarryOutcome.{CarryOutcome}
 use Rattle.model.specs.declared.read_hub.CarryOutcome.TheVariants.{AlreadyCurrent, Carried, Cold}
 use Rattle.model.specs.Slots.{u256_words}
 use Rattle.model.specs.Advance.{DeltaReport, lineage_number, skip_number}
 use Rattle.model.specs.Store.{Generation, Memory, Report, opened, anchor_same, anchor_fresh, advanced, value, no_value, stored, waiting, listed, answered}
-use Rattle.model.specs.Refusals.{Answer, refuse, ok}
+use Rattle.model.specs.Refusals.{Answer, refuse, ok, refusal_number}
 use Rattle.words.specs.Parts.{placed}
 use Rattle.image.specs.Image.{bytes_of, flag, totals_words}
-use Rattle.call_run.specs.declared.RunReply.{RunReply}
-use Rattle.call_run.specs.declared.RunReply.TheVariants.{Refused, Listed, Broken}
+use Rattle.call_run.specs.Run.{RunReply}
+use Rattle.call_run.specs.declared.RunEnd.TheVariants.{Listed, Broken}
 use Rattle.final_writes.specs.FinalWrites.{FinalWrites, seeded}
 use Rattle.final_writes.specs.FinalWrites as final
 
@@ -81,9 +81,9 @@ totals_given (Some st) = installed_totals st.installed
 
 -- A run: 0 where it stopped for lack of room, 1 at the list's end, 2 at a fault; the place of the next call or of the fault, the bytes written, the fault.
 abbrev pub run_given : RunReply → Given
-run_given (Refused n) = refused_by n
-run_given (Listed next written ended) = accepted (flag ended ∷ next.at ∷ written ∷ 0 ∷ [])
-run_given (Broken n place written) = accepted (2 ∷ place.at ∷ written ∷ n ∷ [])
+run_given (Err e) = refused_by (refusal_number e)
+run_given (Ok (Listed next written ended)) = accepted (flag ended ∷ next.at ∷ written ∷ 0 ∷ [])
+run_given (Ok (Broken n place written)) = accepted (2 ∷ place.at ∷ written ∷ n ∷ [])
 
 -- Final writes: their numbers of writes and reads, filtered and capped entries.
 abbrev pub final_given : FinalWrites → Given

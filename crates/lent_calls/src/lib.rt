@@ -15,7 +15,7 @@ ghost use Rattle.lent_calls.specs.Arguments.{reply_size, reply_enough, hash_enou
 ghost use Rattle.lent_calls.specs.Inner.{count_words};
 ghost use Rattle.lent_calls.specs.ReplyWords.{with_words, delta_words, Gives, code_of, answer_given, run_given, final_given};
 
-use call_run::RunReply;
+use call_run::{RunEnd, RunReply};
 use final_writes::FinalWritesReply;
 use model::delta_snapshot::Slot;
 use model::read_hub::{CarryOutcome, ReadTotals};
@@ -334,20 +334,24 @@ pub fn write_run(reply: &mut [u8], r: RunReply) -> u64
     ensures { Gives result reply.new (run_given r) reply.old }
 {
     match r {
-        RunReply::Refused(n) => n,
-        RunReply::Listed {
-            next,
-            written,
-            ended,
-        } => {
+        Err(refusal) => refusal.number(),
+        Ok(
+            RunEnd::Listed {
+                next,
+                written,
+                ended,
+            },
+        ) => {
             write_words(reply, &[ended as u64, next.at as u64, written as u64, 0]);
             0
         }
-        RunReply::Broken {
-            fault,
-            place,
-            written,
-        } => {
+        Ok(
+            RunEnd::Broken {
+                fault,
+                place,
+                written,
+            },
+        ) => {
             write_words(reply, &[2, place.at as u64, written as u64, fault]);
             0
         }

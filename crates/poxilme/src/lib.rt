@@ -14,6 +14,7 @@ ghost use Rattle.lent_calls.specs.Exported.{lent_final, Keeps, Exported, Exporte
 ghost use Rattle.lent_calls.specs.Steps.{lent_open, lent_install, lent_slot, lent_put, lent_advance, lent_take, lent_answer, lent_failed, lent_totals};
 
 use model::delta_snapshot::Retention;
+use model::refusal::Refusal;
 use reader::Cursor;
 
 // The bytes of a store of a capacity, and of an advance's work area; 0 for a capacity that an open refuses.
@@ -51,10 +52,10 @@ pub extern "C" fn poxilme_open(
     ensures { Exported result s.new reply.new (lent_open s.old capacity max_depth bounded idle reply.old) reply.old × (result ≡ 0 → is_some (decode s.new) ≡ true) × Keeps s.old s.new }
 {
     if !lent_calls::reply_enough(reply) {
-        return 9;
+        return Refusal::LentTooShort.number();
     }
     if 1 < bounded {
-        return 3;
+        return Refusal::UnknownForm.number();
     }
     let retention = Retention::of_words(bounded, idle);
     lent_calls::code(store::open(s, capacity, max_depth, retention))
@@ -66,7 +67,7 @@ pub extern "C" fn poxilme_install(s: &mut [u8], number: u64, hash: &[u8], reply:
     ensures { Exported result s.new reply.new (lent_install s.old number hash.now reply.old) reply.old × Keeps s.old s.new }
 {
     if !lent_calls::anchored_enough(hash, reply) {
-        return 9;
+        return Refusal::LentTooShort.number();
     }
     let anchor = lent_calls::anchor(number, hash);
     let r = store::install(s, anchor);
@@ -85,7 +86,7 @@ pub extern "C" fn poxilme_look(
     ensures { Exported result s.now reply.new (lent_slot calls.look s.now number hash.now slot.now reply.old) reply.old }
 {
     if !lent_calls::slot_enough(hash, slot, reply) {
-        return 9;
+        return Refusal::LentTooShort.number();
     }
     let anchor = lent_calls::anchor(number, hash);
     let r = store::look(s, anchor, lent_calls::slot(slot));
@@ -104,7 +105,7 @@ pub extern "C" fn poxilme_get(
     ensures { Exported result s.new reply.new (lent_slot calls.get s.old number hash.now slot.now reply.old) reply.old × Keeps s.old s.new }
 {
     if !lent_calls::slot_enough(hash, slot, reply) {
-        return 9;
+        return Refusal::LentTooShort.number();
     }
     let anchor = lent_calls::anchor(number, hash);
     let r = store::get(s, anchor, lent_calls::slot(slot));
@@ -124,7 +125,7 @@ pub extern "C" fn poxilme_put(
     ensures { Exported result s.new reply.new (lent_put s.old number hash.now slot.now value.now reply.old) reply.old × Keeps s.old s.new }
 {
     if !lent_calls::put_enough(hash, slot, value, reply) {
-        return 9;
+        return Refusal::LentTooShort.number();
     }
     let anchor = lent_calls::anchor(number, hash);
     let r = store::put(s, anchor, lent_calls::slot(slot), lent_calls::value(value));
@@ -148,7 +149,7 @@ pub extern "C" fn poxilme_advance(
     ensures { ExportedOutput result s.new reply.new out.new (lent_advance s.old number hash.now parent_hash.now skip addresses.now writes.now work.old out.old reply.old) reply.old out.old × Keeps s.old s.new }
 {
     if !lent_calls::advance_enough(hash, parent_hash, reply) {
-        return 9;
+        return Refusal::LentTooShort.number();
     }
     let anchor = lent_calls::anchor(number, hash);
     let parent = lent_calls::value(parent_hash);
@@ -168,7 +169,7 @@ pub extern "C" fn poxilme_read(
     ensures { Exported result s.new reply.new (lent_slot calls.read s.old number hash.now slot.now reply.old) reply.old × Keeps s.old s.new }
 {
     if !lent_calls::slot_enough(hash, slot, reply) {
-        return 9;
+        return Refusal::LentTooShort.number();
     }
     let anchor = lent_calls::anchor(number, hash);
     let r = store::read(s, anchor, lent_calls::slot(slot));
@@ -187,7 +188,7 @@ pub extern "C" fn poxilme_take(
     ensures { ExportedOutput result s.new reply.new out.new (lent_take s.old number hash.now out.old reply.old) reply.old out.old × Keeps s.old s.new }
 {
     if !lent_calls::anchored_enough(hash, reply) {
-        return 9;
+        return Refusal::LentTooShort.number();
     }
     let anchor = lent_calls::anchor(number, hash);
     let r = store::take(s, anchor, out);
@@ -206,7 +207,7 @@ pub extern "C" fn poxilme_answer(
     ensures { Exported result s.new reply.new (lent_answer s.old number hash.now members.now reply.old) reply.old × Keeps s.old s.new }
 {
     if !lent_calls::anchored_enough(hash, reply) {
-        return 9;
+        return Refusal::LentTooShort.number();
     }
     let anchor = lent_calls::anchor(number, hash);
     let r = store::answer(s, anchor, members);
@@ -225,7 +226,7 @@ pub extern "C" fn poxilme_answer_failed(
     ensures { Exported result s.new reply.new (lent_failed s.old number hash.now slots.now reply.old) reply.old × Keeps s.old s.new }
 {
     if !lent_calls::anchored_enough(hash, reply) {
-        return 9;
+        return Refusal::LentTooShort.number();
     }
     let anchor = lent_calls::anchor(number, hash);
     let r = store::answer_failed(s, anchor, slots);
@@ -238,7 +239,7 @@ fn known_totals(s: &[u8], reply: &mut [u8]) -> u64
     ensures { Gives result reply.new (totals_given (decode s.now)) reply.old }
 {
     if !layers::is_installed(s) {
-        return 21;
+        return Refusal::NothingInstalled.number();
     }
     lent_calls::write_totals(reply, totals::read_totals(s));
     0
@@ -250,10 +251,10 @@ pub extern "C" fn poxilme_read_totals(s: &[u8], reply: &mut [u8]) -> u64
     ensures { Gives result reply.new (lent_totals s.now reply.old) reply.old }
 {
     if !lent_calls::reply_enough(reply) {
-        return 9;
+        return Refusal::LentTooShort.number();
     }
     if !check_store::is_store(s) {
-        return 20;
+        return Refusal::NotAStore.number();
     }
     known_totals(s, reply)
 }
@@ -270,7 +271,7 @@ pub extern "C" fn poxilme_install_unchecked(
     ensures { Exported result s.new reply.new (lent_install s.old number hash.now reply.old) reply.old × (is_some (decode s.new) ≡ true) }
 {
     if !lent_calls::anchored_enough(hash, reply) {
-        return 9;
+        return Refusal::LentTooShort.number();
     }
     let anchor = lent_calls::anchor(number, hash);
     let r = unchecked_calls::install(s, anchor);
@@ -290,7 +291,7 @@ pub extern "C" fn poxilme_look_unchecked(
     ensures { Exported result s.now reply.new (lent_slot calls.look s.now number hash.now slot.now reply.old) reply.old }
 {
     if !lent_calls::slot_enough(hash, slot, reply) {
-        return 9;
+        return Refusal::LentTooShort.number();
     }
     let t = lent_calls::slot(slot);
     if let Err(refusal) = header::guard_lent(s, number, hash) {
@@ -319,7 +320,7 @@ pub extern "C" fn poxilme_get_unchecked(
     ensures { Exported result s.new reply.new (lent_slot calls.get s.old number hash.now slot.now reply.old) reply.old × (is_some (decode s.new) ≡ true) }
 {
     if !lent_calls::slot_enough(hash, slot, reply) {
-        return 9;
+        return Refusal::LentTooShort.number();
     }
     let t = lent_calls::slot(slot);
     if let Err(refusal) = header::guard_lent(s, number, hash) {
@@ -332,7 +333,7 @@ pub extern "C" fn poxilme_get_unchecked(
         return 0;
     }
     if !top::has_room(s, place) {
-        return 23;
+        return Refusal::OverCapacity.number();
     }
     lent_calls::write_row(reply, s, found - 1);
     top::touch_top(s, place, t);
@@ -353,7 +354,7 @@ pub extern "C" fn poxilme_put_unchecked(
     ensures { Exported result s.new reply.new (lent_put s.old number hash.now slot.now value.now reply.old) reply.old × (is_some (decode s.new) ≡ true) }
 {
     if !lent_calls::put_enough(hash, slot, value, reply) {
-        return 9;
+        return Refusal::LentTooShort.number();
     }
     let anchor = lent_calls::anchor(number, hash);
     let r = unchecked_calls::put(s, anchor, lent_calls::slot(slot), lent_calls::value(value));
@@ -378,7 +379,7 @@ pub extern "C" fn poxilme_advance_unchecked(
     ensures { ExportedOutput result s.new reply.new out.new (lent_advance s.old number hash.now parent_hash.now skip addresses.now writes.now work.old out.old reply.old) reply.old out.old × (is_some (decode s.new) ≡ true) }
 {
     if !lent_calls::advance_enough(hash, parent_hash, reply) {
-        return 9;
+        return Refusal::LentTooShort.number();
     }
     let anchor = lent_calls::anchor(number, hash);
     let parent = lent_calls::value(parent_hash);
@@ -399,7 +400,7 @@ pub extern "C" fn poxilme_read_unchecked(
     ensures { Exported result s.new reply.new (lent_slot calls.read s.old number hash.now slot.now reply.old) reply.old × (is_some (decode s.new) ≡ true) }
 {
     if !lent_calls::slot_enough(hash, slot, reply) {
-        return 9;
+        return Refusal::LentTooShort.number();
     }
     let anchor = lent_calls::anchor(number, hash);
     let r = unchecked_reads::read(s, anchor, lent_calls::slot(slot));
@@ -419,7 +420,7 @@ pub extern "C" fn poxilme_take_unchecked(
     ensures { ExportedOutput result s.new reply.new out.new (lent_take s.old number hash.now out.old reply.old) reply.old out.old × (is_some (decode s.new) ≡ true) }
 {
     if !lent_calls::anchored_enough(hash, reply) {
-        return 9;
+        return Refusal::LentTooShort.number();
     }
     let anchor = lent_calls::anchor(number, hash);
     let r = unchecked_reads::take(s, anchor, out);
@@ -439,10 +440,10 @@ pub extern "C" fn poxilme_answer_unchecked(
     ensures { Exported result s.new reply.new (lent_answer s.old number hash.now members.now reply.old) reply.old × (is_some (decode s.new) ≡ true) }
 {
     if !lent_calls::anchored_enough(hash, reply) {
-        return 9;
+        return Refusal::LentTooShort.number();
     }
     if !awaiting::flags_known(members) {
-        return 3;
+        return Refusal::UnknownForm.number();
     }
     let anchor = lent_calls::anchor(number, hash);
     let r = unchecked_reads::answer(s, anchor, members);
@@ -462,7 +463,7 @@ pub extern "C" fn poxilme_answer_failed_unchecked(
     ensures { Exported result s.new reply.new (lent_failed s.old number hash.now slots.now reply.old) reply.old × (is_some (decode s.new) ≡ true) }
 {
     if !lent_calls::anchored_enough(hash, reply) {
-        return 9;
+        return Refusal::LentTooShort.number();
     }
     let anchor = lent_calls::anchor(number, hash);
     let r = unchecked_reads::answer_failed(s, anchor, slots);
@@ -476,7 +477,7 @@ pub extern "C" fn poxilme_read_totals_unchecked(s: &[u8], reply: &mut [u8]) -> u
     ensures { Gives result reply.new (lent_totals s.now reply.old) reply.old }
 {
     if !lent_calls::reply_enough(reply) {
-        return 9;
+        return Refusal::LentTooShort.number();
     }
     known_totals(s, reply)
 }
@@ -496,7 +497,7 @@ pub extern "C" fn poxilme_run(
     ensures { ExportedRun (reply_enough reply.old) result (length work.old) (length entries.old / 52) list.now from members.old s.old out.old reply.old s.new out.new reply.new × Keeps s.old s.new }
 {
     if !lent_calls::reply_enough(reply) {
-        return 9;
+        return Refusal::LentTooShort.number();
     }
     let r = call_run::run(list, Cursor { at: from }, s, work, entries, members, out);
     lent_calls::write_run(reply, r)
@@ -519,7 +520,7 @@ pub extern "C" fn poxilme_final_writes(
     ensures { ExportedFinal result reply.new writes_out.new reads_out.new (lent_final (reply_enough reply.old) (lent_final_writes (plan_of plan_addresses.now (lent_cap max_writes) (lent_cap max_reads)) (lent_lists accounts.now slots.now changes.now reads.now) writes_out.old reads_out.old)) reply.old writes_out.old reads_out.old }
 {
     if !lent_calls::reply_enough(reply) {
-        return 9;
+        return Refusal::LentTooShort.number();
     }
     let most_writes = lent_calls::cap(max_writes);
     let most_reads = lent_calls::cap(max_reads);

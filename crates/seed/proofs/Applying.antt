@@ -33,8 +33,6 @@ use Rattle.header.proofs.Images.{store_split}
 use Rattle.top.proofs.Tops.{count_set}
 use Rattle.seed.specs.declared.WriteKind.{WriteKind as Kind}
 use Rattle.seed.specs.declared.WriteKind.TheVariants.{Overwrite, New, Skip}
-use Rattle.seed.specs.declared.Applied.{Applied}
-use Rattle.seed.specs.declared.Applied.TheVariants.{Full, Done}
 use Rattle.seed.specs.Writes.{kind_of, applied_kind, retopped, has_room_for, kind_in, top_after, Settled, Wrote}
 
 -- A record set if there is room for it, by the place that was found and the answer r of the question for room.
@@ -64,7 +62,7 @@ module _ (b addresses : List ℕ) (s : Slot) (v : Value) (w : Kind) (e : kind_of
   top_is : (t : Layer) → apply_write number (kind_of w) s v own ≡ t → top_after b addresses s v ≡ t
   top_is t p = ap (λ (k : WriteKind). apply_write number k s v own) (sym e) ∙ p
 
-  wrote : (r : Applied) (after : List ℕ) (t : Layer) (room : Bool) → apply_write number (kind_of w) s v own ≡ t → applied_kind r ≡ cond room (Some (kind_of w)) None → Settled room after t b → Wrote r after b addresses s v
+  wrote : (r : Option Kind) (after : List ℕ) (t : Layer) (room : Bool) → apply_write number (kind_of w) s v own ≡ t → applied_kind r ≡ cond room (Some (kind_of w)) None → Settled room after t b → Wrote r after b addresses s v
   wrote r after t room p a h =
       let q : top_after b addresses s v ≡ t = top_is t p in
       let m : room ≡ has_room_for (top_after b addresses s v) b = h.room_is ∙ ap (λ (x : Layer). has_room_for x b) (sym q) in
@@ -73,19 +71,19 @@ module _ (b addresses : List ℕ) (s : Slot) (v : Value) (w : Kind) (e : kind_of
         bytes_are = h.bytes_are ∙ ap₂ (λ (x : Bool) (y : Layer). cond x (retopped y b) b) m (sym q);
       }
 
-  pub wrote_over : (r : Applied) (after : List ℕ) (u : ℕ) (room : Bool) → w ≡ Overwrite u → applied_kind r ≡ cond room (Some (overwrite u)) None → Settled room after (insert s (valued u v) own) b → Wrote r after b addresses s v
+  pub wrote_over : (r : Option Kind) (after : List ℕ) (u : ℕ) (room : Bool) → w ≡ Overwrite u → applied_kind r ≡ cond room (Some (overwrite u)) None → Settled room after (insert s (valued u v) own) b → Wrote r after b addresses s v
   wrote_over r after u room i a h = wrote r after (insert s (valued u v) own) room (ap (λ (x : Kind). apply_write number (kind_of x) s v own) i) (a ∙ ap (λ (x : Kind). cond room (Some (kind_of x)) None) (sym i)) h
 
-  pub wrote_new : (r : Applied) (after : List ℕ) (n : ℕ) (room : Bool) → w ≡ New → n ≡ number → applied_kind r ≡ cond room (Some (kind_of w)) None → Settled room after (insert s (valued n v) own) b → Wrote r after b addresses s v
+  pub wrote_new : (r : Option Kind) (after : List ℕ) (n : ℕ) (room : Bool) → w ≡ New → n ≡ number → applied_kind r ≡ cond room (Some (kind_of w)) None → Settled room after (insert s (valued n v) own) b → Wrote r after b addresses s v
   wrote_new r after n room i m a h =
       wrote r after (insert s (valued n v) own) room (ap (λ (x : Kind). apply_write number (kind_of x) s v own) i ∙ ap (λ (x : ℕ). insert s (valued x v) own) (sym m)) a h
 
   -- A skipped write leaves the bytes, which are those of the store with its own top.
-  pub wrote_none : Bytes b → Installed b → w ≡ Skip → Wrote (Done w) b b addresses s v
+  pub wrote_none : Bytes b → Installed b → w ≡ Skip → Wrote (Some w) b b addresses s v
   wrote_none f h i =
       let few : true ≡ has_room_for own b = sym (le-leb _ _ (generation_in b h).facts.few_records) in
       let same : b ≡ retopped own b = store_split b (store_of b) f h.is_store ∙ ap (λ (x : Option Generation). overlay (Some (record { config = (store_of b).config; installed = x })) b) h.installs in
-      wrote (Done w) b own true (ap (λ (x : Kind). apply_write number (kind_of x) s v own) i) refl (record { room_is = few; bytes_are = same })
+      wrote (Some w) b own true (ap (λ (x : Kind). apply_write number (kind_of x) s v own) i) refl (record { room_is = few; bytes_are = same })
 
 -- What a write leaves is a store again: with the same configuration, and the same generation but for the top.
 pub record Again (after b : List ℕ) (cfg : Config) (g : Generation) : Type 0 where
@@ -155,23 +153,23 @@ some_true : (x : Bool) (j k : WriteKind) → Some j ≡ cond x (Some k) None →
 some_true true j k e = (refl, same_Some j k e)
 some_true false j k e = absurd (none-some j (sym e))
 
-module _ (r : Applied) (after b addresses : List ℕ) (s : Slot) (v : Value) where
-  pub wrote_full : Wrote r after b addresses s v → r ≡ Full → has_room_for (top_after b addresses s v) b ≡ false
+module _ (r : Option Kind) (after b addresses : List ℕ) (s : Slot) (v : Value) where
+  pub wrote_full : Wrote r after b addresses s v → r ≡ None → has_room_for (top_after b addresses s v) b ≡ false
   wrote_full h e = none_false _ (kind_in b addresses s) (ap applied_kind (sym e) ∙ h.answer_is)
 
   -- The bytes stay where there is no room.
-  pub wrote_same : Wrote r after b addresses s v → r ≡ Full → after ≡ b
+  pub wrote_same : Wrote r after b addresses s v → r ≡ None → after ≡ b
   wrote_same h e = h.bytes_are ∙ ap (λ (x : Bool). cond x (retopped (top_after b addresses s v) b) b) (wrote_full h e)
 
   module _ (w : Kind) where
-    pub wrote_done : Wrote r after b addresses s v → r ≡ Done w → (has_room_for (top_after b addresses s v) b ≡ true) × (kind_of w ≡ kind_in b addresses s)
+    pub wrote_done : Wrote r after b addresses s v → r ≡ Some w → (has_room_for (top_after b addresses s v) b ≡ true) × (kind_of w ≡ kind_in b addresses s)
     wrote_done h e = some_true _ (kind_of w) (kind_in b addresses s) (ap applied_kind (sym e) ∙ h.answer_is)
 
-    pub wrote_bytes : Wrote r after b addresses s v → r ≡ Done w → after ≡ retopped (top_after b addresses s v) b
+    pub wrote_bytes : Wrote r after b addresses s v → r ≡ Some w → after ≡ retopped (top_after b addresses s v) b
     wrote_bytes h e = h.bytes_are ∙ ap (λ (x : Bool). cond x (retopped (top_after b addresses s v) b) b) (wrote_done h e).0
 
     -- A store again.
-    pub wrote_again : Installed b → slot_fits s ≡ true → u256_fits v ≡ true → Wrote r after b addresses s v → r ≡ Done w
+    pub wrote_again : Installed b → slot_fits s ≡ true → u256_fits v ≡ true → Wrote r after b addresses s v → r ≡ Some w
         → Again after b (store_of b).config (with_top (generation_of b) (top_after b addresses s v))
     wrote_again i p q h e =
         subst (λ (x : List ℕ). Again x b (store_of b).config (with_top (generation_of b) (top_after b addresses s v))) (sym (wrote_bytes h e))

@@ -1,5 +1,5 @@
 -- The writes of a list applied one after the other. Assumes nothing.
-use Rattle.std.specs.Prelude.{Option, Some, Err, Ok}
+use Rattle.std.specs.Prelude.{Option, None, Some, Err, Ok}
 use mathlib.Core.Path.{◌≡◌, refl, sym, ap, ap₂, subst, ◌∙◌}
 use mathlib.Core.Bool.{true, false}
 use mathlib.Core.List.{List, [], ◌∷◌, ◌++◌}
@@ -32,8 +32,6 @@ use Rattle.records.specs.Records.{place_in, count_after}
 use Rattle.records.proofs.Places.{length_insert}
 use Rattle.header.proofs.Images.{store_split}
 use Rattle.seed.specs.declared.WriteKind.{WriteKind as Kind}
-use Rattle.seed.specs.declared.Applied.{Applied}
-use Rattle.seed.specs.declared.Applied.TheVariants.{Full, Done}
 use Rattle.replies.specs.declared.WriteCounts.{WriteCounts}
 use Rattle.seed.specs.Writes.{kind_of, has_room_for, kind_in, top_after, Wrote, count_one, seeded_over, seeded_in, SeededTo}
 use Rattle.seed.proofs.Entries.{write_at, writes_end}
@@ -124,7 +122,7 @@ unfolding seed_final_writes
 seeded_nil cfg g relevance = refl
 
 -- The write of an entry, by the slot and the value that were read of it.
-pub wrote_at : (r : Applied) (after s addresses : List ℕ) (t : Slot) (v : Value) (w : Write) → t ≡ w.slot → v ≡ w.value → Wrote r after s addresses t v → Wrote r after s addresses w.slot w.value
+pub wrote_at : (r : Option Kind) (after s addresses : List ℕ) (t : Slot) (v : Value) (w : Write) → t ≡ w.slot → v ≡ w.value → Wrote r after s addresses t v → Wrote r after s addresses w.slot w.value
 wrote_at r after s addresses t v w p q h = subst (λ (y : Value). Wrote r after s addresses w.slot y) q (subst (λ (x : Slot). Wrote r after s addresses x v) p h)
 
 module _ (b addresses writes s : List ℕ) (c : WriteCounts) (i : ℕ) (along : Along b addresses writes s c i) where
@@ -151,7 +149,7 @@ module _ (b addresses writes s : List ℕ) (c : WriteCounts) (i : ℕ) (along : 
   now_is h = ap (seeded_in s relevance) (write_at i writes h) ∙ seeded_cons (store_of s).config (generation_of s) relevance write (drop (suc i) (writes_of writes))
 
   -- Without room for a write there is none for what all writes leave.
-  pub along_full : (r : Applied) (after : List ℕ) → i < length writes / 84 → Wrote r after s addresses write.slot write.value → r ≡ Full → has_room_for total.top b ≡ false
+  pub along_full : (r : Option Kind) (after : List ℕ) → i < length writes / 84 → Wrote r after s addresses write.slot write.value → r ≡ None → has_room_for total.top b ≡ false
   unfolding record_count
   along_full r after h wr e =
       let no : leb (record_count (top_then ∷ (generation_of s).base)) (store_of s).config.capacity ≡ false = wrote_full r after s addresses write.slot write.value wr e in
@@ -164,8 +162,8 @@ module _ (b addresses writes s : List ℕ) (c : WriteCounts) (i : ℕ) (along : 
       lt-leb (record_count (total.top ∷ (generation_of b).base)) (store_of b).config.capacity (omega arith)
 
   -- A write applied.
-  module _ (after : List ℕ) (r : Applied) (what : Kind) (known : Bytes writes) (known_after : Bytes after) (h : i < length writes / 84)
-      (wr : Wrote r after s addresses write.slot write.value) (e : r ≡ Done what) where
+  module _ (after : List ℕ) (r : Option Kind) (what : Kind) (known : Bytes writes) (known_after : Bytes after) (h : i < length writes / 84)
+      (wr : Wrote r after s addresses write.slot write.value) (e : r ≡ Some what) where
     said : (has_room_for top_then s ≡ true) × (kind_of what ≡ kind_then)
     said = wrote_done r after s addresses write.slot write.value what wr e
 

@@ -13,11 +13,7 @@ use Rattle.model.specs.Store.{Config, Generation, with_top}
 use Rattle.model.specs.declared.storage_memo.Address.{Address}
 use Rattle.seed.specs.declared.WriteKind.{WriteKind as Kind}
 use Rattle.seed.specs.declared.WriteKind.TheVariants.{Overwrite, New, Skip}
-use Rattle.seed.specs.declared.Applied.{Applied}
-use Rattle.seed.specs.declared.Applied.TheVariants.{Full, Done}
 use Rattle.replies.specs.declared.WriteCounts.{WriteCounts}
-use Rattle.seed.specs.declared.Seeded.{Seeded}
-use Rattle.seed.specs.declared.Seeded.TheVariants.{Full as NoRoom, Done as Counts}
 
 -- What a write does, in the model's terms.
 abbrev pub kind_of : Kind → WriteKind
@@ -26,9 +22,9 @@ kind_of New = new
 kind_of Skip = skip
 
 -- What a write did, or none where there was no room.
-abbrev pub applied_kind : Applied → Option WriteKind
-applied_kind Full = None
-applied_kind (Done k) = Some (kind_of k)
+abbrev pub applied_kind : Option Kind → Option WriteKind
+applied_kind None = None
+applied_kind (Some k) = Some (kind_of k)
 
 -- The bytes of a store with another top of its generation, and whether its records are within the capacity.
 abbrev pub retopped : Layer → List ℕ → List ℕ
@@ -52,7 +48,7 @@ pub record Settled (room : Bool) (after : List ℕ) (t : Layer) (b : List ℕ) :
   pub bytes_are : after ≡ cond room (retopped t b) b
 
 -- A write was applied if there is room for it, else the bytes are as they were.
-pub record Wrote (r : Applied) (after b addresses : List ℕ) (s : Slot) (v : Value) : Type 0 where
+pub record Wrote (r : Option Kind) (after b addresses : List ℕ) (s : Slot) (v : Value) : Type 0 where
   pub answer_is : applied_kind r ≡ cond (has_room_for (top_after b addresses s v) b) (Some (kind_in b addresses s)) None
   pub bytes_are : after ≡ cond (has_room_for (top_after b addresses s v) b) (retopped (top_after b addresses s v) b) b
 
@@ -85,6 +81,6 @@ pub record SeededTo (c : WriteCounts) (after b : List ℕ) (z : SeededTop) : Typ
   pub generation_is : generation_of after ≡ with_top (generation_of b) z.top
 
 -- What the writes of a list came to: there is no room for the records that they leave, or all were applied.
-abbrev pub SeededAs : Seeded → List ℕ → List ℕ → List ℕ → List ℕ → Type 0
-SeededAs NoRoom after b addresses writes = has_room_for (seeded_in b (addresses_of addresses) (writes_of writes)).top b ≡ false
-SeededAs (Counts c) after b addresses writes = SeededTo c after b (seeded_in b (addresses_of addresses) (writes_of writes))
+abbrev pub SeededAs : Option WriteCounts → List ℕ → List ℕ → List ℕ → List ℕ → Type 0
+SeededAs None after b addresses writes = has_room_for (seeded_in b (addresses_of addresses) (writes_of writes)).top b ≡ false
+SeededAs (Some c) after b addresses writes = SeededTo c after b (seeded_in b (addresses_of addresses) (writes_of writes))

@@ -17,25 +17,11 @@ use records::Found;
 use replies::WriteCounts;
 
 // What a write does: sets a served slot, whose last use is kept; sets one that is not served; nothing.
-#[derive(Clone, Copy)]
+#[derive(Clone, Copy, Debug, PartialEq, Eq)]
 pub enum WriteKind {
     Overwrite(u64),
     New,
     Skip,
-}
-
-// What applying a write came to: no room for its record, or what it did.
-#[derive(Clone, Copy)]
-pub enum Applied {
-    Full,
-    Done(WriteKind),
-}
-
-// What the writes of a list came to: no room for the records that they leave, or their counts.
-#[derive(Clone, Copy)]
-pub enum Seeded {
-    Full,
-    Done(WriteCounts),
 }
 
 // Whether the address at `at` comes before the given one.
@@ -202,18 +188,14 @@ fn set_if_room(s: &mut [u8], place: Found, slot: Slot, c: Content) -> bool
     true
 }
 
-// The answer of a write, by whether there was room.
-fn answer(room: bool, what: WriteKind) -> Applied
+// What a write did, where there was room.
+fn answer(room: bool, what: WriteKind) -> Option<WriteKind>
     ensures { applied_kind result ≡ cond room (Some (kind_of what)) None }
 {
-    if room {
-        Applied::Done(what)
-    } else {
-        Applied::Full
-    }
+    if room { Some(what) } else { None }
 }
 
-// Applies one write to the top. Where there is no room for its record the bytes stay.
+// Applies one write to the top: what it did. Where there is no room for its record it is none, and the bytes stay.
 fn apply(
     s: &mut [u8],
     addresses: &[u8],
@@ -221,7 +203,7 @@ fn apply(
     rise: bool,
     slot: Slot,
     value: U256,
-) -> Applied
+) -> Option<WriteKind>
     requires { Installed s.old × Indexed rise table.now addresses.now }
     ensures { Wrote result s.new s.old addresses.now slot value }
 {
@@ -244,7 +226,7 @@ fn apply(
             let room = set_if_room(s, place, slot, c);
             answer(room, what)
         }
-        WriteKind::Skip => Applied::Done(what),
+        WriteKind::Skip => Some(what),
     }
 }
 
@@ -272,8 +254,14 @@ fn counted(counts: WriteCounts, what: WriteKind) -> WriteCounts
     }
 }
 
-// Applies the writes of a list in order, with the table of the addresses.
-fn seed_by(s: &mut [u8], addresses: &[u8], table: &[u16], rise: bool, writes: &[u8]) -> Seeded
+// Applies the writes of a list in order, with the table of the addresses: their counts, or none where there is no room.
+fn seed_by(
+    s: &mut [u8],
+    addresses: &[u8],
+    table: &[u16],
+    rise: bool,
+    writes: &[u8],
+) -> Option<WriteCounts>
     requires { Installed s.old × Indexed rise table.now addresses.now }
     ensures { SeededAs result s.new s.old addresses.now writes.now }
 {
@@ -285,17 +273,14 @@ fn seed_by(s: &mut [u8], addresses: &[u8], table: &[u16], rise: bool, writes: &[
     for i in 0..writes.len() / 84 {
         let slot = write_slot_of(writes, i);
         let value = write_value_of(writes, i);
-        let done = apply(s, addresses, table, rise, slot, value);
-        let Applied::Done(what) = done else {
-            return Seeded::Full;
-        };
+        let what = apply(s, addresses, table, rise, slot, value)?;
         counts = counted(counts, what);
     }
-    Seeded::Done(counts)
+    Some(counts)
 }
 
-// Applies the writes of a list in order (`seed_final_writes`). Where there is no room the bytes are left half way.
-pub fn seed_final_writes(s: &mut [u8], addresses: &[u8], writes: &[u8]) -> Seeded
+// Applies the writes of a list in order (`seed_final_writes`): their counts. Where there is no room they are none, and the bytes are left half way.
+pub fn seed_final_writes(s: &mut [u8], addresses: &[u8], writes: &[u8]) -> Option<WriteCounts>
     requires { Installed s.old }
     ensures { SeededAs result s.new s.old addresses.now writes.now }
 {

@@ -1,7 +1,7 @@
 -- The end of an advance: the writes over the store begun in the work area, which becomes the store. Assumes nothing.
 use Rattle.model.specs.declared.refusal.Refusal.TheVariants.{OverCapacity}
 use Rattle.std.specs.Prelude.{Ok, Err}
-use Rattle.std.specs.Prelude.{Option, Some}
+use Rattle.std.specs.Prelude.{Option, None, Some}
 use Prim.Native.Nat.{ℕ, ◌+◌, ◌*◌, ◌≤◌, ◌<◌}
 use mathlib.Core.Path.{◌≡◌, refl, sym, ap, ap₂, subst, ◌∙◌}
 use mathlib.Core.Bool.{Bool, true, false, cond}
@@ -28,8 +28,6 @@ use Rattle.image.proofs.Lent.{store_in}
 use Rattle.counts.specs.declared.Counts.{Counts}
 use Rattle.model.specs.declared.delta_snapshot.CompactionReport.{CompactionReport}
 use Rattle.replies.specs.declared.WriteCounts.{WriteCounts}
-use Rattle.seed.specs.declared.Seeded.{Seeded}
-use Rattle.seed.specs.declared.Seeded.TheVariants.{Full as NoRoom, Done as Counted}
 use Rattle.seed.specs.Writes.{has_room_for, seeded_in, SeededTo, SeededAs}
 use Rattle.unchecked_advance.specs.Outputs.{applied_in}
 use Rattle.replies.specs.Replies.{AdvancedAs}
@@ -38,11 +36,11 @@ use Rattle.unchecked_advance.proofs.AppliedLaws.{applied_is, none_applied}
 use Rattle.unchecked_advance.proofs.Outputs.{applied_fit}
 
 -- What the answer of the writes says.
-pub seeded_full : (r : Seeded) (after b addresses writes : List ℕ) → SeededAs r after b addresses writes → r ≡ NoRoom → has_room_for (seeded_in b (addresses_of addresses) (writes_of writes)).top b ≡ false
-seeded_full r after b addresses writes h e = subst (λ (x : Seeded). SeededAs x after b addresses writes) e h
+pub seeded_full : (r : Option WriteCounts) (after b addresses writes : List ℕ) → SeededAs r after b addresses writes → r ≡ None → has_room_for (seeded_in b (addresses_of addresses) (writes_of writes)).top b ≡ false
+seeded_full r after b addresses writes h e = subst (λ (x : Option WriteCounts). SeededAs x after b addresses writes) e h
 
-pub seeded_done : (r : Seeded) (c : WriteCounts) (after b addresses writes : List ℕ) → SeededAs r after b addresses writes → r ≡ Counted c → SeededTo c after b (seeded_in b (addresses_of addresses) (writes_of writes))
-seeded_done r c after b addresses writes h e = subst (λ (x : Seeded). SeededAs x after b addresses writes) e h
+pub seeded_done : (r : Option WriteCounts) (c : WriteCounts) (after b addresses writes : List ℕ) → SeededAs r after b addresses writes → r ≡ Some c → SeededTo c after b (seeded_in b (addresses_of addresses) (writes_of writes))
+seeded_done r c after b addresses writes h e = subst (λ (x : Option WriteCounts). SeededAs x after b addresses writes) e h
 
 -- The size of a store by its word.
 pub size_fits : (s w : List ℕ) (cap : ℕ) → Ready w s → cap ≡ num (part capacity_offset 8 s) → (records_offset + record_size * cap ≤ length s) × (cap ≤ 4096)

@@ -24,7 +24,6 @@ use model::read_hub::{CarryOutcome, Lineage};
 use model::refusal::Refusal;
 use model::storage_memo::{B256, ReadAnchor};
 use replies::{AdvanceReply, DeltaReport, WriteCounts};
-use seed::Seeded;
 
 // Copies the first n bytes of the work area to the store.
 fn copy_back(s: &mut [u8], work: &[u8], n: usize)
@@ -101,7 +100,7 @@ fn finish(
     ensures { AdvancedAs result s.new out.new (ended (store_of s.old).config (writing work.old addresses.now writes.now outcome compaction) s.old) out.old }
 {
     let seeded = seed::seed_final_writes(work, addresses, writes);
-    let Seeded::Done(applied) = seeded else {
+    let Some(applied) = seeded else {
         return Err(Refusal::OverCapacity);
     };
     let counted = count_after(work, writes, out, applied.applied, before);

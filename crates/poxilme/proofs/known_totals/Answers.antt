@@ -6,7 +6,7 @@ use Rattle.poxilme.proofs.known_totals.Goals as goal
 pub returns-then-not-is_installed : goal.returns-then-not-is_installed
 returns-then-not-is_installed c =
     let a = c.args in
-    refused_gives 21 (none_installed a.s.now c.requires.0 c.is_installed.ensures c.if-not-is_installed.true)
+    rw c.number.ensures (refused_gives 21 (none_installed a.s.now c.requires.0 c.is_installed.ensures c.if-not-is_installed.true))
 
 pub read_totals-requires : goal.read_totals-requires
 read_totals-requires c = totals_long _ c.requires.0

@@ -21,7 +21,7 @@ use Rattle.poxilme.proofs.poxilme_advance_unchecked.Goals as goal
 pub returns-then-not-advance_enough : goal.returns-then-not-advance_enough
 returns-then-not-advance_enough c =
     let a = c.args in
-    (short_output a.s.now a.reply.now _ {fits = advance_enough a.hash.now a.parent_hash.now a.reply.now} (unfit {fits = advance_enough a.hash.now a.parent_hash.now a.reply.now} c.advance_enough.ensures c.if-not-advance_enough.true) a.out.now, c.requires)
+    rw c.number.ensures (short_output a.s.now a.reply.now _ {fits = advance_enough a.hash.now a.parent_hash.now a.reply.now} (unfit {fits = advance_enough a.hash.now a.parent_hash.now a.reply.now} c.advance_enough.ensures c.if-not-advance_enough.true) a.out.now, c.requires)
 
 pub anchor-anchor-requires : goal.anchor-anchor-requires
 anchor-anchor-requires c =

@@ -13,7 +13,7 @@ use Rattle.poxilme.proofs.poxilme_answer.Goals as goal
 pub returns-then-not-anchored_enough : goal.returns-then-not-anchored_enough
 returns-then-not-anchored_enough c =
     let a = c.args in
-    (short_exported a.s.now a.reply.now _ (unfit c.anchored_enough.ensures c.if-not-anchored_enough.true), λ e. e)
+    rw c.number.ensures (short_exported a.s.now a.reply.now _ (unfit c.anchored_enough.ensures c.if-not-anchored_enough.true), λ e. e)
 
 pub anchor-anchor-requires : goal.anchor-anchor-requires
 anchor-anchor-requires c =

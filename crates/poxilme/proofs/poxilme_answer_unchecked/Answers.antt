@@ -20,13 +20,13 @@ use Rattle.poxilme.proofs.poxilme_answer_unchecked.Goals as goal
 pub returns-then-not-anchored_enough : goal.returns-then-not-anchored_enough
 returns-then-not-anchored_enough c =
     let a = c.args in
-    (short_exported a.s.now a.reply.now _ (unfit c.anchored_enough.ensures c.if-not-anchored_enough.true), c.requires)
+    rw c.number.ensures (short_exported a.s.now a.reply.now _ (unfit c.anchored_enough.ensures c.if-not-anchored_enough.true), c.requires)
 
 pub returns-then-not-flags_known : goal.returns-then-not-flags_known
 returns-then-not-flags_known c =
     let a = c.args in
     let st = stepped_as (sym (unknown_flag a.s.now (lent_anchor a.number a.hash.now) a.members.now _ c.flags_known.ensures c.if-not-flags_known.true)) (record { answer_is = refl; bytes_is = refl }) in
-    (exported a.s.now a.reply.now _ {fits = anchored_enough a.hash.now a.reply.now} (fit c.anchored_enough.ensures c.if-not-anchored_enough.false) (refused_gives 3 {x = answer_given (refuse 3)} refl) st, c.requires)
+    rw c.number-then-not-flags_known.ensures (exported a.s.now a.reply.now _ {fits = anchored_enough a.hash.now a.reply.now} (fit c.anchored_enough.ensures c.if-not-anchored_enough.false) (refused_gives 3 {x = answer_given (refuse 3)} refl) st, c.requires)
 
 pub anchor-anchor-requires : goal.anchor-anchor-requires
 anchor-anchor-requires c =

@@ -12,7 +12,7 @@ use Rattle.poxilme.proofs.poxilme_final_writes.Goals as goal
 pub returns-then-not-reply_enough : goal.returns-then-not-reply_enough
 returns-then-not-reply_enough c =
     let a = c.args in
-    short_final a.reply.now a.writes_out.now a.reads_out.now _ {fits = reply_enough a.reply.now} (unfit c.reply_enough.ensures c.if-not-reply_enough.true)
+    rw c.number.ensures (short_final a.reply.now a.writes_out.now a.reads_out.now _ {fits = reply_enough a.reply.now} (unfit c.reply_enough.ensures c.if-not-reply_enough.true))
 
 pub write_final_writes-requires : goal.write_final_writes-requires
 write_final_writes-requires c =

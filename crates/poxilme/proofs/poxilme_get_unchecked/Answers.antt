@@ -38,7 +38,7 @@ use Rattle.poxilme.proofs.poxilme_get_unchecked.Goals as goal
 pub returns-then-not-slot_enough : goal.returns-then-not-slot_enough
 returns-then-not-slot_enough c =
     let a = c.args in
-    (short_exported a.s.now a.reply.now _ (unfit c.slot_enough.ensures c.if-not-slot_enough.true), c.requires)
+    rw c.number.ensures (short_exported a.s.now a.reply.now _ (unfit c.slot_enough.ensures c.if-not-slot_enough.true), c.requires)
 
 pub slot-t-requires : goal.slot-t-requires
 slot-t-requires c =
@@ -56,7 +56,7 @@ pub returns-in-Err : goal.returns-in-Err
 returns-in-Err c =
     let fits : let a = c.args in slot_enough a.hash.now a.slot.now a.reply.now ≡ true = fit c.slot_enough.ensures c.if-not-slot_enough.false in
     let a = c.args in (
-      exported a.s.now a.reply.now _ {fits = slot_enough a.hash.now a.slot.now a.reply.now} fits (refused_gives c.number.result (ap refused_by (sym c.number.ensures)))
+      exported a.s.now a.reply.now _ {fits = slot_enough a.hash.now a.slot.now a.reply.now} fits (refused_gives c.number-in-Err.result (ap refused_by (sym c.number-in-Err.ensures)))
           (by_guard a.s.now (lent_anchor a.number a.hash.now) c.in-Err.refusal (plain_get (slot_of a.slot.now)) (decoded_some _ c.requires) (sym c.guard_lent.ensures ∙ c.in-Err.is)),
       c.requires,
     )
@@ -115,7 +115,7 @@ returns-then-not-has_room c =
     c.place_of-place.ensures (place_in c.slot-t.result (generation_of a.s.now).top) c.top_number.ensures in
     let a = c.args in
     let s = a.s.now in
-    let h = found in (
+    let h = found in rw c.number-then-not-has_room.ensures (
       exported s a.reply.now _ {fits = slot_enough a.hash.now a.slot.now a.reply.now} fits (refused_gives 23 refl)
           (said _ _ (got_full s (known_bytes s c.slice_known-1.given) (lent_anchor a.number a.hash.now) here c.slot-t.result (own_value (row_content (c.served_row-found.result - 1) s)) h.value_is h.has _ place (room_no _ _ _ c.has_room.ensures c.if-not-has_room.true))),
       c.requires,

@@ -33,7 +33,7 @@ use Rattle.poxilme.proofs.poxilme_look_unchecked.Goals as goal
 pub returns-then-not-slot_enough : goal.returns-then-not-slot_enough
 returns-then-not-slot_enough c =
     let a = c.args in
-    short_exported a.s.now a.reply.now _ (unfit c.slot_enough.ensures c.if-not-slot_enough.true)
+    rw c.number.ensures (short_exported a.s.now a.reply.now _ (unfit c.slot_enough.ensures c.if-not-slot_enough.true))
 
 pub slot-t-requires : goal.slot-t-requires
 slot-t-requires c =
@@ -51,7 +51,7 @@ pub returns-in-Err : goal.returns-in-Err
 returns-in-Err c =
     let fits : let a = c.args in slot_enough a.hash.now a.slot.now a.reply.now ≡ true = fit c.slot_enough.ensures c.if-not-slot_enough.false in
     let a = c.args in
-    exported a.s.now a.reply.now _ {fits = slot_enough a.hash.now a.slot.now a.reply.now} fits (refused_gives c.number.result (ap refused_by (sym c.number.ensures)))
+    exported a.s.now a.reply.now _ {fits = slot_enough a.hash.now a.slot.now a.reply.now} fits (refused_gives c.number-in-Err.result (ap refused_by (sym c.number-in-Err.ensures)))
     (by_guard a.s.now (lent_anchor a.number a.hash.now) c.in-Err.refusal (plain_look (slot_of a.slot.now)) (decoded_some _ c.requires) (sym c.guard_lent.ensures ∙ c.in-Err.is))
 
 pub top_number-requires : goal.top_number-requires

@@ -18,14 +18,14 @@ use Rattle.poxilme.proofs.poxilme_open.Goals as goal
 pub returns-then-not-reply_enough : goal.returns-then-not-reply_enough
 returns-then-not-reply_enough c =
     let a = c.args in
-    (short_exported a.s.now a.reply.now _ (unfit c.reply_enough.ensures c.if-not-reply_enough.true), λ z. absurd (omega (arith, z)), λ e. e)
+    rw c.number.ensures (short_exported a.s.now a.reply.now _ (unfit c.reply_enough.ensures c.if-not-reply_enough.true), λ z. absurd (omega (arith, z)), λ e. e)
 
 pub returns-then-bounded-gt1 : goal.returns-then-bounded-gt1
 returns-then-bounded-gt1 c =
     let a = c.args in
     let o = bytes_step a.s.now (alone (open_store a.capacity a.max_depth (lent_retention a.bounded a.idle))) in
     let st = stepped_as (sym (form_unknown a.bounded a.s.now o (omega arith))) (record { answer_is = refl; bytes_is = refl }) in
-    (exported a.s.now a.reply.now _ (fit c.reply_enough.ensures c.if-not-reply_enough.false) (refused_gives 3 {x = answer_given (refuse 3)} refl) st, λ z. absurd (omega (arith, z)), λ e. e)
+    rw c.number-then-bounded-gt1.ensures (exported a.s.now a.reply.now _ (fit c.reply_enough.ensures c.if-not-reply_enough.false) (refused_gives 3 {x = answer_given (refuse 3)} refl) st, λ z. absurd (omega (arith, z)), λ e. e)
 
 pub returns : goal.returns
 returns c =

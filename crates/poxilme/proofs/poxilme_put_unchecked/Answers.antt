@@ -21,7 +21,7 @@ use Rattle.poxilme.proofs.poxilme_put_unchecked.Goals as goal
 pub returns-then-not-put_enough : goal.returns-then-not-put_enough
 returns-then-not-put_enough c =
     let a = c.args in
-    (short_exported a.s.now a.reply.now _ {fits = put_enough a.hash.now a.slot.now a.value.now a.reply.now} (unfit {fits = put_enough a.hash.now a.slot.now a.value.now a.reply.now} c.put_enough.ensures c.if-not-put_enough.true), c.requires)
+    rw c.number.ensures (short_exported a.s.now a.reply.now _ {fits = put_enough a.hash.now a.slot.now a.value.now a.reply.now} (unfit {fits = put_enough a.hash.now a.slot.now a.value.now a.reply.now} c.put_enough.ensures c.if-not-put_enough.true), c.requires)
 
 pub anchor-anchor-requires : goal.anchor-anchor-requires
 anchor-anchor-requires c =

@@ -14,13 +14,13 @@ use Rattle.poxilme.proofs.poxilme_read_totals.Goals as goal
 pub returns-then-not-reply_enough : goal.returns-then-not-reply_enough
 returns-then-not-reply_enough c =
     let a = c.args in
-    short_given a.reply.now _ (unfit c.reply_enough.ensures c.if-not-reply_enough.true)
+    rw c.number.ensures (short_given a.reply.now _ (unfit c.reply_enough.ensures c.if-not-reply_enough.true))
 
 pub returns-then-not-is_store : goal.returns-then-not-is_store
 returns-then-not-is_store c =
     let a = c.args in
     let e = sym c.is_store.ensures ∙ c.if-not-is_store.true in
-    long_given a.reply.now _ (fit c.reply_enough.ensures c.if-not-reply_enough.false) (refused_gives 20 (no_store (decode a.s.now) e))
+    rw c.number-then-not-is_store.ensures (long_given a.reply.now _ (fit c.reply_enough.ensures c.if-not-reply_enough.false) (refused_gives 20 (no_store (decode a.s.now) e)))
 
 pub known_totals-requires : goal.known_totals-requires
 known_totals-requires c =

@@ -9,7 +9,7 @@ use Rattle.poxilme.proofs.poxilme_read_totals_unchecked.Goals as goal
 pub returns-then-not-reply_enough : goal.returns-then-not-reply_enough
 returns-then-not-reply_enough c =
     let a = c.args in
-    short_given a.reply.now _ (unfit c.reply_enough.ensures c.if-not-reply_enough.true)
+    rw c.number.ensures (short_given a.reply.now _ (unfit c.reply_enough.ensures c.if-not-reply_enough.true))
 
 pub known_totals-requires : goal.known_totals-requires
 known_totals-requires c =

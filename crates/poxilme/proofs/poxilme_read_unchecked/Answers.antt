@@ -18,7 +18,7 @@ use Rattle.poxilme.proofs.poxilme_read_unchecked.Goals as goal
 pub returns-then-not-slot_enough : goal.returns-then-not-slot_enough
 returns-then-not-slot_enough c =
     let a = c.args in
-    (short_exported a.s.now a.reply.now _ (unfit c.slot_enough.ensures c.if-not-slot_enough.true), c.requires)
+    rw c.number.ensures (short_exported a.s.now a.reply.now _ (unfit c.slot_enough.ensures c.if-not-slot_enough.true), c.requires)
 
 pub anchor-anchor-requires : goal.anchor-anchor-requires
 anchor-anchor-requires c =

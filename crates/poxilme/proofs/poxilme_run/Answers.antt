@@ -11,7 +11,7 @@ use Rattle.poxilme.proofs.poxilme_run.Goals as goal
 pub returns-then-not-reply_enough : goal.returns-then-not-reply_enough
 returns-then-not-reply_enough c =
     let a = c.args in
-    (short_run (length a.work.now) (length a.entries.now / 52) a.list.now a.from a.members.now a.s.now a.out.now a.reply.now {fits = reply_enough a.reply.now} (unfit c.reply_enough.ensures c.if-not-reply_enough.true), λ e. e)
+    rw c.number.ensures (short_run (length a.work.now) (length a.entries.now / 52) a.list.now a.from a.members.now a.s.now a.out.now a.reply.now {fits = reply_enough a.reply.now} (unfit c.reply_enough.ensures c.if-not-reply_enough.true), λ e. e)
 
 pub write_run-requires : goal.write_run-requires
 write_run-requires c =

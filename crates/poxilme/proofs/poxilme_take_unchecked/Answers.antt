@@ -14,7 +14,7 @@ use Rattle.poxilme.proofs.poxilme_take_unchecked.Goals as goal
 pub returns-then-not-anchored_enough : goal.returns-then-not-anchored_enough
 returns-then-not-anchored_enough c =
     let a = c.args in
-    (short_output a.s.now a.reply.now _ (unfit c.anchored_enough.ensures c.if-not-anchored_enough.true) a.out.now, c.requires)
+    rw c.number.ensures (short_output a.s.now a.reply.now _ (unfit c.anchored_enough.ensures c.if-not-anchored_enough.true) a.out.now, c.requires)
 
 pub anchor-anchor-requires : goal.anchor-anchor-requires
 anchor-anchor-requires c =

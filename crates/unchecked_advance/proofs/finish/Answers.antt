@@ -19,7 +19,7 @@ returns-in_default c =
 pub count_after-counted-requires : goal.count_after-counted-requires
 count_after-counted-requires c =
     let a = c.args in
-    let t = seeded_done _ _ _ _ _ _ c.seed_final_writes-seeded.ensures c.in-Done.is in
+    let t = seeded_done _ _ _ _ _ _ c.seed_final_writes-seeded.ensures c.in-Some.is in
     (record { installed = (t.installed, c.requires.1); counts_before = counts_before a.s.now a.work.now a.addresses.now a.writes.now a.out.now a.outcome a.compaction c.requires.0 _ _ (known_bytes c.seed_final_writes-seeded.new.s c.slice_known-4-1.given) t _ c.requires.2 }
     )
 
@@ -39,9 +39,9 @@ overflow_add-n c =
 pub copy_back-requires : goal.copy_back-requires
 copy_back-requires c =
     let fits : (records_offset + record_size * c.read_u64.result ≤ length c.args.s.now) × (c.read_u64.result ≤ 4096) = size_fits c.args.s.now c.args.work.now _ c.requires.0 c.read_u64.ensures in
-    (size_in c.args.s.now c.args.work.now _ _ _ _ c.requires.0 (seeded_done _ _ _ _ _ _ c.seed_final_writes-seeded.ensures c.in-Done.is) c.read_u64.ensures, fits.0)
+    (size_in c.args.s.now c.args.work.now _ _ _ _ c.requires.0 (seeded_done _ _ _ _ _ _ c.seed_final_writes-seeded.ensures c.in-Some.is) c.read_u64.ensures, fits.0)
 
 pub returns : goal.returns
 returns c =
     let a = c.args in
-    finish_done a.s.now a.work.now a.addresses.now a.writes.now a.out.now a.outcome a.compaction c.requires.0 _ _ (known_bytes c.seed_final_writes-seeded.new.s c.slice_known-4-1.given) (seeded_done _ _ _ _ _ _ c.seed_final_writes-seeded.ensures c.in-Done.is) _ _ _ _ (known_bytes a.writes.now c.type_inv.writes) c.read_u64.ensures c.copy_back.ensures c.count_after-counted.ensures.0 c.count_after-counted.ensures.1
+    finish_done a.s.now a.work.now a.addresses.now a.writes.now a.out.now a.outcome a.compaction c.requires.0 _ _ (known_bytes c.seed_final_writes-seeded.new.s c.slice_known-4-1.given) (seeded_done _ _ _ _ _ _ c.seed_final_writes-seeded.ensures c.in-Some.is) _ _ _ _ (known_bytes a.writes.now c.type_inv.writes) c.read_u64.ensures c.copy_back.ensures c.count_after-counted.ensures.0 c.count_after-counted.ensures.1
