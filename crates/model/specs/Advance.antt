@@ -1,5 +1,8 @@
 -- An advance: the link to the parent, the fold and the seal of its layers, and the child's writes.
-use Rattle.std.specs.Prelude.{ℕ, suc, ◌-◌, ◌^◌, Bool, true, false, not, ◌&&◌, ◌||◌, cond, List, [], ◌∷◌, eqb, ltb, length, None, Option, Some}
+use Rattle.std.specs.Prelude.{ℕ, suc, ◌-◌, ◌^◌, Bool, true, false, not, ◌&&◌, ◌||◌, cond, List, [], ◌∷◌, eqb, ltb, length, None, Option, Some, Ok, Err}
+use Rattle.std.specs.declared.result.Result.{Result}
+use Rattle.model.specs.declared.refusal.Refusal.{Refusal}
+use Rattle.model.specs.declared.refusal.Refusal.TheVariants.{SkipOutOfRange}
 use Rattle.model.specs.Slots.{Address, address_eqb, Value, LastUse, Hash, u256_eqb, Slot, ReadAnchor, Retention, serves}
 use Rattle.model.specs.Layers.{LayerOf, Layer, find, held_value, freshest_use, insert, count_distinct, all_slots}
 pub use Rattle.model.specs.declared.delta_snapshot.CompactionReport.{CompactionReport}
@@ -30,6 +33,10 @@ skip_number Decode = 3
 
 abbrev pub skip_of : ℕ → BalSkip
 skip_of n = cond (eqb n 0) Decoded (cond (eqb n 1) NoAnchorHash (cond (eqb n 2) Rpc Decode))
+
+-- The skip of a number, or its refusal (7).
+abbrev pub skip_read : ℕ → Result BalSkip Refusal
+skip_read n = cond (ltb 3 n) (Err SkipOutOfRange) (Ok (skip_of n))
 
 -- The part of the link that compares hashes.
 abbrev pub classify_hash : Option Hash → Hash → Lineage

@@ -1,4 +1,7 @@
 // read_hub.rs: the outcome of an advance, and the totals of a generation's reads.
+ghost use Rattle.std.specs.Prelude.{◌≡◌};
+ghost use Rattle.model.specs.Advance.{lineage_number};
+
 use crate::bal_prefetch::BalSkip;
 
 // How a child stands to the installed anchor: linked, or the reason why not (the source's `CarryRefusal`).
@@ -9,6 +12,21 @@ pub enum Lineage {
     NotConsecutive,
     ParentHashUnknown,
     ParentHashMismatch,
+}
+
+// Document 01's number of a lineage.
+impl From<Lineage> for u64 {
+    ghost from_gives = { λ lineage n. n ≡ lineage_number lineage };
+
+    fn from(lineage: Lineage) -> u64 {
+        match lineage {
+            Lineage::Linked => 0,
+            Lineage::NoParent => 1,
+            Lineage::NotConsecutive => 2,
+            Lineage::ParentHashUnknown => 3,
+            Lineage::ParentHashMismatch => 4,
+        }
+    }
 }
 
 // What an advance did.
