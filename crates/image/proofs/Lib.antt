@@ -13,3 +13,4 @@ pub mod Areas
 pub mod Lent
 pub mod OnBytes
 pub mod Demand3Holds
+pub mod Written

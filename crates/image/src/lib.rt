@@ -1,6 +1,9 @@
-// The store's image in bytes: definitions and their theorems.
+// The store's image in bytes: definitions and their theorems, and words written one after the other.
 #![tactic(auto)]
 
+ghost use Rattle.std.specs.Prelude.{◌≡◌, ◌+◌, ◌*◌, ◌≤◌, length};
+ghost use Rattle.words.specs.Parts.{placed};
+ghost use Rattle.image.specs.Image.{bytes_of};
 ghost use Rattle.image.specs.Claims.{ImageClaims};
 ghost use Rattle.image.specs.Demand3OnBytes.{DemandOnBytes};
 
@@ -8,3 +11,13 @@ ghost use Rattle.image.specs.Demand3OnBytes.{DemandOnBytes};
 pub fn claims()
     ensures { ImageClaims × DemandOnBytes }
 {}
+
+// Words at `at`, one after the other.
+pub fn write_words(s: &mut [u8], at: usize, ws: &[u64])
+    requires { at + 8 * length ws.now ≤ length s.old }
+    ensures { s.new ≡ placed at (bytes_of ws.now) s.old }
+{
+    for (i, w) in ws.iter().enumerate() {
+        words::write_u64(s, at + 8 * i, *w);
+    }
+}

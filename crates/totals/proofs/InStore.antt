@@ -17,7 +17,8 @@ use Rattle.image.specs.Image.{bytes_of, retention_words, hash_words, totals_word
 use Rattle.image.proofs.Words.{length_bytes_of}
 use Rattle.image.proofs.ReadBack.{Begins}
 use Rattle.totals.specs.Totals.{totals_of, with_totals}
-use Rattle.totals.proofs.Places.{totals_of_words, placed_over, bytes_of_append}
+use Rattle.totals.proofs.Places.{totals_of_words, placed_over}
+use Rattle.image.proofs.Written.{bytes_append}
 use Rattle.model.specs.declared.storage_memo.U256.{U256}
 
 -- The words before the totals, and those after them.
@@ -59,7 +60,7 @@ module _ (cfg : Config) (g : Generation) where
   unfolding image
   image_apart t rest =
       ap (λ (l : List ℕ). bytes_of l ++ rest) (words_apart t)
-      ∙ ap (λ (l : List ℕ). l ++ rest) (bytes_of_append head (totals_words t ++ tail) ∙ ap (λ (l : List ℕ). bytes_of head ++ l) (bytes_of_append (totals_words t) tail))
+      ∙ ap (λ (l : List ℕ). l ++ rest) (bytes_append head (totals_words t ++ tail) ∙ ap (λ (l : List ℕ). bytes_of head ++ l) (bytes_append (totals_words t) tail))
       ∙ simp append_assoc
 
   -- Bytes that begin with a store's words give its totals.

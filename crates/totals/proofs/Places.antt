@@ -1,18 +1,15 @@
 -- The words of a store that hold the totals: reading them, and writing them one after the other.
 use Prim.Native.Nat.{ℕ, zero, suc, ◌+◌, ◌*◌, ◌≤◌, ◌<◌}
 use mathlib.Core.Path.{◌≡◌, refl, sym, ap, ap₂, ◌∙◌}
-use mathlib.Core.List.{List, [], ◌∷◌, ◌++◌, append_assoc, append-nil}
+use mathlib.Core.List.{List, ◌++◌, append_assoc}
 use native.Mathlib.Omega.{arith}
-use lib.ListN.{length, take, drop, get_or, length-append, take-append-drop}
+use lib.ListN.{length, take, drop, get_or}
 use lib.Dec.{lit<, lit≤}
-use native.Mathlib.Numerals.{add-one}
-use lib.Seq.{take-suc, drop-drop, drop_at, take_at, get_or-drop, length-take-le}
+use lib.Seq.{drop-drop, drop_at, take_at, get_or-drop}
 use Rattle.layout.specs.Layout.{accepted_offset, coalesced_offset, errors_offset, header_width, members_offset, refused_offset, rounds_offset, served_offset, totals_index, totals_offset, totals_width, valued_offset, waiting_offset}
-use Rattle.model.specs.Numbers.{be, num}
+use Rattle.model.specs.Numbers.{num}
 use Rattle.model.specs.declared.read_hub.ReadTotals.{ReadTotals}
-use Rattle.model.proofs.NumberLaws.{length_be}
-use Rattle.image.specs.Image.{bytes_of, words_of, read_totals}
-use Rattle.image.proofs.Words.{length_bytes_of}
+use Rattle.image.specs.Image.{words_of, read_totals}
 use Rattle.words.specs.Parts.{part, placed}
 use Rattle.totals.specs.Totals.{totals_of}
 
@@ -75,45 +72,8 @@ words_read s {x1} {x2} {x3} {x4} {x5} {x6} {x7} {x8} {x9} p1 p2 p3 p4 p5 p6 p7 p
 pub totals_of_words : (n : ℕ) (s : List ℕ) → header_width ≤ n → read_totals (drop totals_index (words_of n s)) ≡ totals_of s
 totals_of_words n s h = words_give n s h ∙ sym (totals_by_words s)
 
--- A part placed after another is both placed.
-placed_next : (at to : ℕ) (v w s : List ℕ) → at + length v ≡ to → to + length w ≤ length s → placed to w (placed at v s) ≡ placed at (v ++ w) s
-placed_next at to v w s e h =
-    let a = take at s ++ v in
-    let d = drop (at + length v) s in
-    let m : length (take at s) ≡ at = length-take-le at s (omega arith) in
-    let n : length a ≡ to = length-append (take at s) v ∙ omega arith in
-    let t : take to (a ++ d) ≡ a = take_at a d to n in
-    let f : at + length v + length w ≡ at + length (v ++ w) = omega (arith, length-append v w) in
-    let u : drop (to + length w) (a ++ d) ≡ drop (at + length (v ++ w)) s =
-    sym (drop-drop (length w) to (a ++ d)) ∙ ap (drop (length w)) (drop_at a d to n) ∙ drop-drop (length w) (at + length v) s ∙ ap (λ (k : ℕ). drop k s) f in
-    ap₂ (λ (x y : List ℕ). x ++ w ++ y) t u ∙ ap (λ (x : List ℕ). x ++ drop (at + length (v ++ w)) s) (append_assoc (take at s) v w)
-
 -- A part placed over one of its length.
 pub placed_over : (at : ℕ) (p w z v : List ℕ) → length p ≡ at → length w ≡ length v → placed at v (p ++ (w ++ z)) ≡ p ++ (v ++ z)
 placed_over at p w z v e f =
     let d : drop (at + length v) (p ++ (w ++ z)) ≡ z = sym (drop-drop (length v) at (p ++ (w ++ z))) ∙ ap (drop (length v)) (drop_at p (w ++ z) at e) ∙ drop_at w z (length v) f in
     ap₂ (λ (x y : List ℕ). x ++ v ++ y) (take_at p (w ++ z) at e) d ∙ append_assoc p v z
-
-pub bytes_of_append : (xs ys : List ℕ) → bytes_of (xs ++ ys) ≡ bytes_of xs ++ bytes_of ys
-unfolding bytes_of
-bytes_of_append [] ys = refl
-bytes_of_append (x ∷ xs) ys = ap (λ (l : List ℕ). be 8 x ++ l) (bytes_of_append xs ys) ∙ sym (append_assoc (be 8 x) (bytes_of xs) (bytes_of ys))
-
-bytes_of_snoc : (ws : List ℕ) (x : ℕ) → bytes_of (ws ++ (x ∷ [])) ≡ bytes_of ws ++ be 8 x
-unfolding bytes_of
-bytes_of_snoc ws x = bytes_of_append ws (x ∷ []) ∙ ap (λ (l : List ℕ). bytes_of ws ++ l) (append-nil (be 8 x))
-
-pub placed_none : (at : ℕ) (s : List ℕ) → s ≡ placed at (bytes_of []) s
-unfolding bytes_of
-placed_none at s =
-    let e : at + 0 ≡ at = omega arith in
-    sym (ap₂ (λ (x : List ℕ) (k : ℕ). x ++ drop k s) (append-nil (take at s)) e ∙ take-append-drop at s)
-
--- A word written after those before it.
-pub word_placed : (ws : List ℕ) (at i : ℕ) (s a b : List ℕ) → i < length ws → at + 8 * length ws ≤ length s → a ≡ placed at (bytes_of (take i ws)) s → b ≡ placed (at + 8 * i) (be 8 (get_or ws i 0)) a → b ≡ placed at (bytes_of (take (i + 1) ws)) s
-word_placed ws at i s a b l h p q =
-    let n : length (take i ws) ≡ i = length-take-le i ws (omega arith) in
-    let e : at + length (bytes_of (take i ws)) ≡ at + 8 * i = omega (arith, length_bytes_of (take i ws)) in
-    let t : take (i + 1) ws ≡ take i ws ++ (get_or ws i 0 ∷ []) = rw add-one (take-suc ws i 0 l) in
-    q ∙ ap (placed (at + 8 * i) (be 8 (get_or ws i 0))) p ∙ placed_next at (at + 8 * i) (bytes_of (take i ws)) (be 8 (get_or ws i 0)) s e (omega (arith, length_be 8 (get_or ws i 0)))
-    ∙ ap (λ (x : List ℕ). placed at x s) (sym (ap bytes_of t ∙ bytes_of_snoc (take i ws) (get_or ws i 0)))

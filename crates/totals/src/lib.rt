@@ -4,6 +4,7 @@
 ghost use Rattle.std.specs.Prelude.{◌≡◌, ◌≤◌, length};
 ghost use Rattle.layout.specs.Layout.{ends_offset};
 ghost use Rattle.model.specs.Reads.{count_answer};
+ghost use Rattle.image.specs.Image.{totals_words};
 ghost use Rattle.totals.specs.Totals.{Small, Answerable, count_read, totals_of, with_totals};
 
 use model::read_hub::ReadTotals;
@@ -26,12 +27,11 @@ pub fn read_totals(s: &[u8]) -> ReadTotals
     }
 }
 
-// Puts totals into a store.
-pub fn write_totals(s: &mut [u8], t: ReadTotals)
-    requires { ends_offset ≤ length s.old }
-    ensures { s.new ≡ with_totals t s.old }
+// The totals as words, in the order of a store's.
+pub fn words_of(t: ReadTotals) -> [u64; 9]
+    ensures { result ≡ totals_words t }
 {
-    let all = [
+    [
         t.accepted,
         t.served,
         t.waiting,
@@ -41,10 +41,15 @@ pub fn write_totals(s: &mut [u8], t: ReadTotals)
         t.members,
         t.errors,
         t.coalesced,
-    ];
-    for (i, x) in all.iter().enumerate() {
-        words::write_u64(s, layout::ACCEPTED_OFFSET + 8 * i, *x);
-    }
+    ]
+}
+
+// Puts totals into a store.
+pub fn write_totals(s: &mut [u8], t: ReadTotals)
+    requires { ends_offset ≤ length s.old }
+    ensures { s.new ≡ with_totals t s.old }
+{
+    image::write_words(s, layout::ACCEPTED_OFFSET, &words_of(t));
 }
 
 // A read counts itself in the totals that it is lent; `joined` says whether the slot of one that waits was awaiting already.
