@@ -30,18 +30,11 @@ fn same_slot(s: &[u8], i: usize, j: usize) -> bool
     requires { (i * record_size + record_size ≤ length s.now) × (j * record_size + record_size ≤ length s.now) }
     ensures { result ≡ slot_eqb (slot_at i s.now) (slot_at j s.now) }
 {
-    let a = i * layout::RECORD_SIZE;
-    let b = j * layout::RECORD_SIZE;
-    for k in 0..layout::SLOT_WIDTH {
-        if words::read_u64(s, a + k * 8) != words::read_u64(s, b + k * 8) {
-            return false;
-        }
-    }
-    true
+    order::compare(s, i * layout::RECORD_SIZE, j * layout::RECORD_SIZE).is_eq()
 }
 
 // What a search found, if there is one, and how many steps are left.
-#[derive(Clone, Copy)]
+#[derive(Clone, Copy, Debug, PartialEq, Eq)]
 pub struct Walked {
     pub last: Option<usize>,
     pub left: usize,

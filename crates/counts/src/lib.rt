@@ -12,7 +12,7 @@ use model::delta_snapshot::Retention;
 use order::Records;
 
 // Both counts.
-#[derive(Clone, Copy)]
+#[derive(Clone, Copy, Debug, PartialEq, Eq)]
 pub struct Counts {
     pub held: usize,
     pub live: usize,

@@ -16,7 +16,7 @@ use model::delta_snapshot::Retention;
 use order::Records;
 
 // How many slots a fold left and how many it dropped.
-#[derive(Clone, Copy)]
+#[derive(Clone, Copy, Debug, PartialEq, Eq)]
 pub struct Folded {
     pub left: usize,
     pub dropped: usize,
