@@ -13,6 +13,7 @@ use Rattle.layout.specs.Layout.{record_size, slot_width, value_index, value_offs
 use Rattle.model.specs.declared.delta_snapshot.Slot.{Slot}
 use Rattle.model.specs.Numbers.{num}
 use Rattle.model.specs.Slots.{slot_words, words_eqb, words_ltb, slot_eqb, slot_ltb, read_u256}
+use Rattle.model.specs.Entries.{u256_at}
 use Rattle.model.proofs.SlotLaws.{split}
 use Rattle.words.specs.Parts.{part}
 use Rattle.image.specs.Image.{words_of, read_slot}
@@ -87,17 +88,16 @@ unfolding words_order words_eqb words_ltb
 words_end {a} {b} {x} {y} p e f =
     rw (← e, ← f) (p ∙ split (ltb a b) (λ q. rw (q, ne_eqb a b (λ z. absurd (omega (arith, ltb-true a b q))))) (λ q. rw q (split (eqb a b) (λ z. rw z) (λ z. rw z))))
 
--- A slot, and a value, of words read one by one.
+-- A slot of words read one by one.
 pub slot_taken : (at : ℕ) (s : List ℕ) {a0 a1 a2 a3 a4 a5 a6 : ℕ}
     → a0 ≡ num (part at 8 s) → a1 ≡ num (part (at + 8) 8 s) → a2 ≡ num (part (at + 16) 8 s) → a3 ≡ num (part (at + 24) 8 s) → a4 ≡ num (part (at + 32) 8 s)
     → a5 ≡ num (part (at + 40) 8 s) → a6 ≡ num (part (at + 48) 8 s) → read_slot (a0 ∷ a1 ∷ a2 ∷ a3 ∷ a4 ∷ a5 ∷ a6 ∷ []) ≡ read_slot (words_of slot_width (drop at s))
 slot_taken at s e0 e1 e2 e3 e4 e5 e6 = (λ i. read_slot (e0 i ∷ e1 i ∷ e2 i ∷ e3 i ∷ e4 i ∷ e5 i ∷ e6 i ∷ [])) ∙ ap read_slot (sym (slot_read at s))
 
-pub value_taken : (i : ℕ) (s : List ℕ) {a0 a1 a2 a3 : ℕ}
-    → a0 ≡ num (part (i * record_size + value_offset) 8 s) → a1 ≡ num (part (i * record_size + value_offset + 8) 8 s) → a2 ≡ num (part (i * record_size + value_offset + 16) 8 s) → a3 ≡ num (part (i * record_size + value_offset + 24) 8 s)
-    → read_u256 (a0 ∷ a1 ∷ a2 ∷ a3 ∷ []) ≡ read_u256 (drop value_index (words_at i s))
-value_taken i s e0 e1 e2 e3 =
+-- The value of record i, read at its place.
+pub value_at : (i : ℕ) (s : List ℕ) → u256_at (i * record_size + value_offset) s ≡ read_u256 (drop value_index (words_at i s))
+value_at i s =
     let at = i * record_size + value_offset in
     let f : words_of 5 (drop at s) ≡ drop value_index (words_at i s) = value_words i s in
     let g : words_of 5 (drop at s) ≡ num (part at 8 s) ∷ num (part (at + 8) 8 s) ∷ num (part (at + 16) 8 s) ∷ num (part (at + 24) 8 s) ∷ num (part (at + 32) 8 s) ∷ [] = five_words at s in
-    (λ j. read_u256 (e0 j ∷ e1 j ∷ e2 j ∷ e3 j ∷ [])) ∙ ap read_u256 (sym g ∙ f)
+    ap read_u256 (sym g ∙ f)

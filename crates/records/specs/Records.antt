@@ -28,11 +28,6 @@ place_from i s (r ∷ l) = cond (slot_eqb r.slot s) (Ok i) (cond (slot_ltb s r.s
 abbrev pub place_in : {A : Type 0} → Slot → LayerOf A → Found
 place_in s l = place_from 0 s l
 
--- A place as one number: even where the record is, odd where it would go.
-abbrev pub place_number : Found → ℕ
-place_number (Ok i) = 2 * i
-place_number (Err i) = 2 * i + 1
-
 -- The number of records, of n before, after a record is set at a place.
 abbrev pub count_after : Found → ℕ → ℕ
 count_after (Ok i) n = n

@@ -2,16 +2,16 @@
 #![tactic(auto)]
 
 ghost use Rattle.std.specs.Prelude.{◌≡◌, true, cond, ◌+◌, ◌-◌, ◌*◌, ◌≤◌, ◌<◌, ◌^◌, ◌∷◌, [], ◌++◌, ltb, length, take, drop};
-ghost use Rattle.layout.specs.Layout.{content_size, record_size, slot_size, slot_width, value_index};
+ghost use Rattle.layout.specs.Layout.{content_size, record_size, slot_size, slot_width};
 ghost use Rattle.model.specs.Numbers.{num};
-ghost use Rattle.model.specs.Slots.{slot_words, read_u256};
+ghost use Rattle.model.specs.Slots.{slot_words};
 ghost use Rattle.model.specs.Contents.{use_of, has_value, touch, content_words};
 ghost use Rattle.model.specs.Layers.{Layer, find, insert};
 ghost use Rattle.words.specs.Parts.{part, placed};
 ghost use Rattle.image.specs.Image.{words_of, bytes_of, read_slot, read_record};
 ghost use Rattle.image.specs.WellFormed.{rising};
 ghost use Rattle.image.specs.Area.{records_of};
-ghost use Rattle.records.specs.Records.{Found, slot_order, place_in, place_number, Entries, words_at, Ready, Holds};
+ghost use Rattle.records.specs.Records.{Found, slot_order, place_in, Entries, words_at, Ready, Holds};
 
 use model::delta_snapshot::{Content, Slot};
 use model::storage_memo::{Address, U256};
@@ -83,20 +83,6 @@ pub fn last_use(s: &[u8], i: usize) -> u64
     words::read_u64(s, i * layout::RECORD_SIZE + layout::LAST_USE_OFFSET)
 }
 
-// The four words of the value of record i.
-fn value(s: &[u8], i: usize) -> U256
-    requires { (i + 1) * record_size ≤ length s.now }
-    ensures { result ≡ read_u256 (drop value_index (words_at i s.now)) }
-{
-    let at = i * layout::RECORD_SIZE + layout::VALUE_OFFSET;
-    U256 {
-        w0: words::read_u64(s, at),
-        w1: words::read_u64(s, at + 8),
-        w2: words::read_u64(s, at + 16),
-        w3: words::read_u64(s, at + 24),
-    }
-}
-
 // Whether record i has a value.
 pub fn has_value(s: &[u8], i: usize) -> bool
     requires { (i + 1) * record_size ≤ length s.now }
@@ -111,7 +97,7 @@ pub fn held(s: &[u8], i: usize) -> Option<U256>
     ensures { result ≡ (read_record (words_at i s.now)).content.held }
 {
     if has_value(s, i) {
-        return Some(value(s, i));
+        return Some(entries::read_u256(s, i * layout::RECORD_SIZE + layout::VALUE_OFFSET));
     }
     None
 }
@@ -167,10 +153,11 @@ pub fn write_content(s: &mut [u8], at: usize, c: Content)
     }
 }
 
-// The place of a slot among n entries of `wide` bytes each, which begin with their slots and rise, by halves. It is answered as one number, which goes through no memory.
-fn search_number(s: &[u8], wide: usize, n: usize, slot: Slot) -> usize
+// The place of a slot among n entries of `wide` bytes each, which begin with their slots and rise, by halves.
+// The library's `binary_search_by` over `as_chunks` leaves no loop early, and takes 1.2 to 1.6 times as long.
+pub fn search(s: &[u8], wide: usize, n: usize, slot: Slot) -> Found
     requires { (slot_size ≤ wide) × (n * wide ≤ length s.now) }
-    ensures { (l : Layer) → Entries wide n s.now l → result ≡ place_number (place_in slot l) }
+    ensures { (l : Layer) → Entries wide n s.now l → result ≡ place_in slot l }
 {
     let mut lo = 0;
     let mut hi = n;
@@ -180,39 +167,21 @@ fn search_number(s: &[u8], wide: usize, n: usize, slot: Slot) -> usize
             Ordering::Less => {
                 lo = mid + 1;
             }
-            Ordering::Equal => return 2 * mid,
+            Ordering::Equal => return Ok(mid),
             Ordering::Greater => {
                 hi = mid;
             }
         }
     }
-    2 * lo + 1
+    Err(lo)
 }
 
-// The place of a number.
-pub fn place_of(k: usize) -> Found
-    ensures { (f : Found) → k ≡ place_number f → result ≡ f }
-{
-    if k % 2 == 0 {
-        return Ok(k / 2);
-    }
-    Err(k / 2)
-}
-
-// The place of a slot among n entries of `wide` bytes each, which begin with their slots and rise.
-pub fn search(s: &[u8], wide: usize, n: usize, slot: Slot) -> Found
-    requires { (slot_size ≤ wide) × (n * wide ≤ length s.now) }
-    ensures { (l : Layer) → Entries wide n s.now l → result ≡ place_in slot l }
-{
-    place_of(search_number(s, wide, n, slot))
-}
-
-// The place of a slot among the n records that s begins with, as a number.
-pub fn find(s: &[u8], n: usize, slot: Slot) -> usize
+// The place of a slot among the n records that s begins with.
+pub fn find(s: &[u8], n: usize, slot: Slot) -> Found
     requires { (n * record_size ≤ length s.now) × (rising (records_of n s.now) ≡ true) }
-    ensures { result ≡ place_number (place_in slot (records_of n s.now)) }
+    ensures { result ≡ place_in slot (records_of n s.now) }
 {
-    search_number(s, layout::RECORD_SIZE, n, slot)
+    search(s, layout::RECORD_SIZE, n, slot)
 }
 
 // Puts a record before record i of the n that s begins with.

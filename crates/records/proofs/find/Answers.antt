@@ -7,4 +7,4 @@ pub returns : goal.returns
 returns c =
     let a = c.args in
     let s = a.s.now in
-    c.search_number.ensures (records_of a.n s) (record { count_is = records_length a.n s; slots_are = λ i h. slot_at_place a.n i s h; rises = c.requires.1 })
+    c.search.ensures (records_of a.n s) (record { count_is = records_length a.n s; slots_are = λ i h. slot_at_place a.n i s h; rises = c.requires.1 })

@@ -1,4 +1,4 @@
--- The loop of `records::search_number`: what it keeps, and its measure.
+-- The loop of `records::search`: what it keeps, and its measure.
 use mathlib.Core.Path.{◌≡◌}
 use mathlib.Core.Bool.{true}
 use Prim.Native.Nat.{ℕ, ◌≤◌, ◌<◌, ◌-◌}
@@ -7,7 +7,7 @@ use Rattle.model.specs.Slots.{slot_ltb}
 use Rattle.model.specs.Layers.{Layer}
 use Rattle.records.specs.Records.{record_at, Entries}
 use Rattle.records.proofs.Places.{Below}
-use Rattle.records.proofs.search_number.Given as goal
+use Rattle.records.proofs.search.Given as goal
 
 -- Of records whose slots stand in the bytes, those before lo come before the slot, and those from hi on after it.
 pub record Narrowed (slot : Slot) (n lo hi : ℕ) (l : Layer) : Type 0 where
