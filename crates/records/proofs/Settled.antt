@@ -10,6 +10,7 @@ use Rattle.layout.specs.Layout.{last_use_offset, record_size}
 use Rattle.model.specs.declared.delta_snapshot.Slot.{Slot}
 use Rattle.model.specs.declared.delta_snapshot.Content.{Content}
 use Rattle.model.specs.Numbers.{be}
+use Rattle.model.specs.Slots.{slot_words}
 use Rattle.model.specs.Contents.{use_only, use_of, own_value, touch, value_words, content_words}
 use Rattle.model.specs.Layers.{Record, Layer, find, insert}
 use Rattle.model.proofs.NumberLaws.{length_be}
@@ -77,10 +78,14 @@ module _ (p : Found) (t : Slot) (n : ℕ) (s : List ℕ) (o : Ready p t n s) whe
   pub held_at : (i : ℕ) (c : Content) {b : List ℕ} → p ≡ Ok i → b ≡ placed (i * record_size + last_use_offset) (bytes_of (content_words c)) s → Holds n b (insert t c (records_of n s)) s
   held_at i c e f = record { count_is = count_at i c e; bytes_are = f ∙ set_found i c e }
 
-  pub held_absent : (i : ℕ) (c : Content) {b : List ℕ} → p ≡ Err i
-      → b ≡ take (i * record_size) s ++ bytes_of (record_words (record { slot = t; content = c })) ++ part (i * record_size) ((n - i) * record_size) s ++ drop ((n + 1) * record_size) s
+  pub held_absent : (i : ℕ) (c : Content) {ws b : List ℕ} → p ≡ Err i → ws ≡ content_words c
+      → b ≡ take (i * record_size) s ++ bytes_of (slot_words t ++ ws) ++ part (i * record_size) ((n - i) * record_size) s ++ drop ((n + 1) * record_size) s
       → Holds (n + 1) b (insert t c (records_of n s)) s
-  held_absent i c e f = record { count_is = count_absent i c e; bytes_are = f ∙ set_absent i c e }
+  held_absent i c e w f =
+      record {
+        count_is = count_absent i c e;
+        bytes_are = f ∙ ap (λ (x : List ℕ). take (i * record_size) s ++ bytes_of (slot_words t ++ x) ++ part (i * record_size) ((n - i) * record_size) s ++ drop ((n + 1) * record_size) s) w ∙ set_absent i c e;
+      }
 
   -- a touch of a slot that has no record
   pub touch_absent : (i u : ℕ) → p ≡ Err i → use_only u ≡ touch u (find t (records_of n s))

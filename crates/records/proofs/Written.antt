@@ -1,12 +1,12 @@
 -- Words written one after the other are their bytes placed.
 use Rattle.std.specs.Prelude.{Option}
-use Prim.Native.Nat.{ℕ, ◌+◌, ◌-◌, ◌*◌, ◌≤◌}
+use Prim.Native.Nat.{ℕ, ◌+◌, ◌*◌, ◌≤◌}
 use mathlib.Core.Path.{◌≡◌, refl, sym, ap, ap₂, ◌∙◌}
 use mathlib.Core.List.{List, [], ◌∷◌, ◌++◌, append_assoc, append-nil}
 use native.Mathlib.Omega.{arith}
-use lib.ListN.{length, take, drop, length-append, length-take, length-drop}
+use lib.ListN.{length, take, drop, take-append-drop, length-append, length-take, length-drop}
 use lib.Seq.{take_at, drop_at, drop-drop, length-take-le}
-use Rattle.layout.specs.Layout.{record_size, record_width, slot_size, slot_width}
+use Rattle.layout.specs.Layout.{slot_size, slot_width}
 use Rattle.model.specs.Numbers.{be}
 use Rattle.model.specs.declared.delta_snapshot.Content.{Content}
 use Rattle.model.specs.Contents.{value_words, content_words}
@@ -50,6 +50,10 @@ placed_first at w v r s e h =
     let j : at + length (v ++ r) ≡ at + length (w ++ r) = omega (arith, length-append v r, length-append w r) in
     ap₂ (λ (x y : List ℕ). x ++ w ++ y) t u ∙ sym (append_assoc (a ++ w) r d) ∙ ap (λ (x : List ℕ). x ++ d) (append_assoc a w r) ∙ ap (λ (k : ℕ). a ++ (w ++ r) ++ drop k s) j
 
+-- Nothing placed.
+pub none_placed : (at : ℕ) (s : List ℕ) → at ≤ length s → placed at [] s ≡ s
+none_placed at s h = let e : at + 0 ≡ at = omega arith in ap₂ (λ (x : List ℕ) (k : ℕ). x ++ drop k s) (append-nil (take at s)) e ∙ take-append-drop at s
+
 -- One word, more words after others, and one word more.
 pub one_word : (at w : ℕ) (s : List ℕ) {t : List ℕ} → t ≡ placed at (be 8 w) s → t ≡ placed at (bytes_of (w ∷ [])) s
 unfolding bytes_of
@@ -91,19 +95,20 @@ pub content_put : (at : ℕ) (c : Content) (h : Option U256) (s : List ℕ) {t :
     → t ≡ placed at (bytes_of (content_words c)) s
 content_put at c h s e f = f ∙ ap (λ (x : Option U256). placed at (bytes_of (c.used ∷ (value_words (x) ++ (0 ∷ [])))) s) (sym e)
 
--- A run moved up by a record's bytes, and a record's words in the gap.
+-- A run moved up.
 length_moved : (at len by : ℕ) (s : List ℕ) → at + by + len ≤ length s → length (moved at len by s) ≡ length s
 length_moved at len by s h = simp (length-append, length-take, length-drop) (omega arith)
 
-pub record_put : (at len : ℕ) (xs ys s : List ℕ) {t0 t1 t2 : List ℕ} → length xs ≡ slot_width → length ys ≡ record_width - slot_width → at + record_size + len ≤ length s
-    → t0 ≡ moved at len record_size s → t1 ≡ placed at (bytes_of xs) t0 → t2 ≡ placed (at + slot_size) (bytes_of ys) t1
-    → t2 ≡ take at s ++ bytes_of (xs ++ ys) ++ part at len s ++ drop (at + record_size + len) s
-record_put at len xs ys s m n h e f g =
+-- A slot's words and those after them, in the gap of an entry moved up: `wide` bytes in all.
+pub entry_put : (at len wide : ℕ) (xs ys s : List ℕ) {t0 t1 t2 : List ℕ} → length xs ≡ slot_width → wide ≡ slot_size + 8 * length ys → at + wide + len ≤ length s
+    → t0 ≡ moved at len wide s → t1 ≡ placed at (bytes_of xs) t0 → t2 ≡ placed (at + slot_size) (bytes_of ys) t1
+    → t2 ≡ take at s ++ bytes_of (xs ++ ys) ++ part at len s ++ drop (at + wide + len) s
+entry_put at len wide xs ys s m n h e f g =
     let x = bytes_of xs in
     let y = bytes_of ys in
-    let z = moved at len record_size s in
+    let z = moved at len wide s in
     let i : at + slot_size ≡ at + length x = omega (arith, length_bytes_of xs) in
-    let j : at + slot_size + length y ≤ length z = omega (arith, length_bytes_of ys, length_moved at len record_size s h) in
-    let k : length (bytes_of (xs ++ ys)) ≡ record_size = length_bytes_of (xs ++ ys) ∙ omega (arith, length-append xs ys) in
+    let j : at + slot_size + length y ≤ length z = omega (arith, length_bytes_of ys, length_moved at len wide s h) in
+    let k : length (bytes_of (xs ++ ys)) ≡ wide = length_bytes_of (xs ++ ys) ∙ omega (arith, length-append xs ys) in
     g ∙ ap (placed (at + slot_size) y) (f ∙ ap (placed at x) e) ∙ placed_after at (at + slot_size) x y z i j
-    ∙ ap (λ (v : List ℕ). placed at v z) (sym (bytes_append xs ys)) ∙ gap_filled at len record_size (bytes_of (xs ++ ys)) s k h
+    ∙ ap (λ (v : List ℕ). placed at v z) (sym (bytes_append xs ys)) ∙ gap_filled at len wide (bytes_of (xs ++ ys)) s k h

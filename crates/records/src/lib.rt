@@ -17,6 +17,12 @@ use model::delta_snapshot::{Content, Slot};
 use model::storage_memo::{Address, U256};
 use std::cmp::Ordering;
 
+// The bytes of a slot.
+const SLOT_SIZE: usize = 8 * layout::SLOT_WIDTH;
+
+// The words of a content.
+const CONTENT_WIDTH: usize = layout::RECORD_WIDTH - layout::SLOT_WIDTH;
+
 // The place of a slot's record, or as the error where it would go.
 pub type Found = Result<usize, usize>;
 
@@ -127,18 +133,25 @@ pub fn write_slot(s: &mut [u8], at: usize, slot: Slot)
     words::write_u64(s, at + 48, slot.index.w3);
 }
 
-// Writes the seven words of a content at `at`: its last use, whether it has a value, the value, and no second use.
-fn write_words(s: &mut [u8], at: usize, used: u64, has: u64, w0: u64, w1: u64, w2: u64, w3: u64)
-    requires { at + content_size ≤ length s.old }
-    ensures { s.new ≡ placed at (bytes_of (used ∷ has ∷ w0 ∷ w1 ∷ w2 ∷ w3 ∷ 0 ∷ [])) s.old }
+// Writes words at `at`, one after the other.
+fn write_words<const WORDS: usize>(s: &mut [u8], at: usize, ws: [u64; WORDS])
+    requires { at + 8 * WORDS ≤ length s.old }
+    ensures { s.new ≡ placed at (bytes_of ws.entry) s.old }
 {
-    words::write_u64(s, at, used);
-    words::write_u64(s, at + 8, has);
-    words::write_u64(s, at + 16, w0);
-    words::write_u64(s, at + 24, w1);
-    words::write_u64(s, at + 32, w2);
-    words::write_u64(s, at + 40, w3);
-    words::write_u64(s, at + 48, 0);
+    for (k, w) in ws.iter().enumerate() {
+        words::write_u64(s, at + 8 * k, *w);
+    }
+}
+
+// The words of a content: its last use, whether it has a value, the value, and no second use.
+fn content_words(c: Content) -> [u64; CONTENT_WIDTH]
+    ensures { result ≡ content_words c }
+{
+    let held = c.held;
+    match held {
+        None => [c.used, 0, 0, 0, 0, 0, 0],
+        Some(v) => [c.used, 1, v.w0, v.w1, v.w2, v.w3, 0],
+    }
 }
 
 // Writes a content at `at`.
@@ -146,11 +159,7 @@ pub fn write_content(s: &mut [u8], at: usize, c: Content)
     requires { at + content_size ≤ length s.old }
     ensures { s.new ≡ placed at (bytes_of (content_words c)) s.old }
 {
-    let held = c.held;
-    match held {
-        None => write_words(s, at, c.used, 0, 0, 0, 0, 0),
-        Some(v) => write_words(s, at, c.used, 1, v.w0, v.w1, v.w2, v.w3),
-    }
+    write_words(s, at, content_words(c));
 }
 
 // The place of a slot among n entries of `wide` bytes each, which begin with their slots and rise, by halves.
@@ -184,19 +193,21 @@ pub fn find(s: &[u8], n: usize, slot: Slot) -> Found
     search(s, layout::RECORD_SIZE, n, slot)
 }
 
-// Puts a record before record i of the n that s begins with.
-fn insert_at(s: &mut [u8], n: usize, i: usize, slot: Slot, c: Content)
-    requires { (i ≤ n) × ((n + 1) * record_size ≤ length s.old) }
-    ensures { s.new ≡ take (i * record_size) s.old ++ bytes_of (slot_words slot ++ content_words c) ++ part (i * record_size) ((n - i) * record_size) s.old ++ drop ((n + 1) * record_size) s.old }
+// Puts an entry, a slot and the words after it, before entry i of the n that s begins with.
+pub fn insert_entry<const WORDS: usize>(
+    s: &mut [u8],
+    n: usize,
+    i: usize,
+    slot: Slot,
+    rest: [u64; WORDS],
+)
+    requires { (i ≤ n) × ((n + 1) * (slot_size + 8 * WORDS) ≤ length s.old) }
+    ensures { s.new ≡ take (i * (slot_size + 8 * WORDS)) s.old ++ bytes_of (slot_words slot ++ rest.entry) ++ part (i * (slot_size + 8 * WORDS)) ((n - i) * (slot_size + 8 * WORDS)) s.old ++ drop ((n + 1) * (slot_size + 8 * WORDS)) s.old }
 {
-    words::move_up(
-        s,
-        i * layout::RECORD_SIZE,
-        (n - i) * layout::RECORD_SIZE,
-        layout::RECORD_SIZE,
-    );
-    write_slot(s, i * layout::RECORD_SIZE, slot);
-    write_content(s, i * layout::RECORD_SIZE + layout::LAST_USE_OFFSET, c);
+    let wide = SLOT_SIZE + 8 * WORDS;
+    words::move_up(s, i * wide, (n - i) * wide, wide);
+    write_slot(s, i * wide, slot);
+    write_words(s, i * wide + SLOT_SIZE, rest);
 }
 
 // Sets the content of a slot's record, which stands or goes at `place`; the number of records then.
@@ -210,7 +221,7 @@ pub fn set(s: &mut [u8], n: usize, place: Found, slot: Slot, c: Content) -> usiz
             n
         }
         Err(i) => {
-            insert_at(s, n, i, slot, c);
+            insert_entry(s, n, i, slot, content_words(c));
             n + 1
         }
     }
@@ -228,7 +239,7 @@ pub fn touch(s: &mut [u8], n: usize, place: Found, slot: Slot, used: u64) -> usi
         }
         Err(i) => {
             let c = Content { used, held: None };
-            insert_at(s, n, i, slot, c);
+            insert_entry(s, n, i, slot, content_words(c));
             n + 1
         }
     }

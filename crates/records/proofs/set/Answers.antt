@@ -30,11 +30,11 @@ write_content-requires c =
     (at_lt c.args.place c.args.slot c.args.n c.args.s.now c.requires i e, at_room c.args.place c.args.slot c.args.n c.args.s.now c.requires i e) in
     omega (arith, at_i.0, at_i.1)
 
-pub insert_at-requires : goal.insert_at-requires
-insert_at-requires c =
+pub insert_entry-requires : goal.insert_entry-requires
+insert_entry-requires c =
     let i = c.in-Err.i in
     let e : c.args.place ≡ Err i = search rules in
-    (absent_at_most c.args.place c.args.slot c.args.n c.args.s.now c.requires i e, absent_room c.args.place c.args.slot c.args.n c.args.s.now c.requires i e)
+    (omega arith, (absent_at_most c.args.place c.args.slot c.args.n c.args.s.now c.requires i e, absent_room c.args.place c.args.slot c.args.n c.args.s.now c.requires i e))
 
 pub overflow_add-result : goal.overflow_add-result
 overflow_add-result c =
@@ -55,4 +55,4 @@ returns-in-Err c =
     let a = c.args in
     let i = c.in-Err.i in
     let e : a.place ≡ Err i = search rules in
-    held_absent a.place a.slot a.n a.s.now c.requires i a.c e c.insert_at.ensures
+    held_absent a.place a.slot a.n a.s.now c.requires i a.c e c.content_words.ensures c.insert_entry.ensures

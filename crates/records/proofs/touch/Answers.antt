@@ -35,12 +35,12 @@ write_u64-requires c =
     (at_lt c.args.place c.args.slot c.args.n c.args.s.now c.requires i e, at_room c.args.place c.args.slot c.args.n c.args.s.now c.requires i e) in
     omega (arith, at_i.0, at_i.1)
 
-pub insert_at-requires : goal.insert_at-requires
-insert_at-requires c =
+pub insert_entry-requires : goal.insert_entry-requires
+insert_entry-requires c =
     let a = c.args in
     let i = c.in-Err.i in
     let e : a.place ≡ Err i = search rules in
-    (absent_at_most a.place a.slot a.n a.s.now c.requires i e, absent_room a.place a.slot a.n a.s.now c.requires i e)
+    (omega arith, (absent_at_most a.place a.slot a.n a.s.now c.requires i e, absent_room a.place a.slot a.n a.s.now c.requires i e))
 
 pub overflow_add-result : goal.overflow_add-result
 overflow_add-result c =
@@ -62,5 +62,5 @@ returns-in-Err c =
     let s = a.s.now in
     let i = c.in-Err.i in
     let e : a.place ≡ Err i = search rules in
-    subst (λ (x : Content). Holds (a.n + 1) c.insert_at.new.s (insert a.slot x (records_of a.n s)) s)
-    (touch_absent a.place a.slot a.n s c.requires i a.used e) (held_absent a.place a.slot a.n s c.requires i (use_only a.used) e c.insert_at.ensures)
+    subst (λ (x : Content). Holds (a.n + 1) c.insert_entry.new.s (insert a.slot x (records_of a.n s)) s)
+    (touch_absent a.place a.slot a.n s c.requires i a.used e) (held_absent a.place a.slot a.n s c.requires i (use_only a.used) e c.content_words.ensures c.insert_entry.ensures)
