@@ -24,7 +24,7 @@ use Rattle.image.proofs.Areas.{Area, below_none, below_all, below_suc}
 use Rattle.image.proofs.Lent.{generation_in}
 use Rattle.image.proofs.RecordsOk.{layer_ok, highest_is_freshest, chain_ok_drop}
 use Rattle.records.specs.Records.{Found}
-use Rattle.records.specs.Records.{place_from, place_in, place_number, words_at, record_at}
+use Rattle.records.specs.Records.{place_from, place_in, words_at, record_at}
 use Rattle.records.proofs.Places.{found_lt, found_content, absent_none}
 use Rattle.records.proofs.RecordsAt.{record_words_at}
 use Rattle.layers.specs.declared.Row.{Row}
@@ -57,8 +57,8 @@ module _ (b : List ℕ) (from : ℕ) (l : Layer) (area : Area b from l) (x n : �
   pub area_asks : (records_offset + record_size * (x + n) ≤ length b) × (rising (records_of n (drop (records_offset + record_size * x) b)) ≡ true)
   area_asks = (omega (arith, area.room), ap rising area_reads ∙ area.rises)
 
-  pub area_finds : (t : Slot) (k : ℕ) → k ≡ place_number (place_in t (records_of n (drop (records_offset + record_size * x) b))) → k ≡ place_number (place_in t l)
-  area_finds t k e = e ∙ ap (λ (y : Layer). place_number (place_in t y)) area_reads
+  pub area_finds : (t : Slot) (k : Found) → k ≡ place_in t (records_of n (drop (records_offset + record_size * x) b)) → k ≡ place_in t l
+  area_finds t k e = e ∙ ap (λ (y : Layer). place_in t y) area_reads
 
 -- A layer without records.
 pub empty_place : (l : Layer) (t : Slot) → length l ≡ 0 → Err 0 ≡ place_in t l
@@ -251,7 +251,7 @@ module _ (r : Option Row) (t : Slot) (k : ℕ) (b : List ℕ) (h : HighestIn r t
   highest_none e = subst (λ (x : Option Row). HighestIn x t k b) e h
 
 -- Of an answer that equals it.
-value_as : (r : ℕ) (b : List ℕ) {o p : Option Value} → o ≡ p → ValueAt r o b → ValueAt r p b
+value_as : (r : Option ℕ) (b : List ℕ) {o p : Option Value} → o ≡ p → ValueAt r o b → ValueAt r p b
 value_as r b e h = subst (λ (x : Option Value). ValueAt r x b) e h
 
 -- A row's value, or the one below.
@@ -270,12 +270,10 @@ or_below c h e = go (own_value c) e
     go (Some v) q = not_both refl q
 
 module _ (t : Slot) (ls : List Layer) (k row : ℕ) (b : List ℕ) (f : First t ls k row b) where
-  pub value_here : has_value (row_content row b) ≡ true → ValueAt (row + 1) (held_value t ls) b
-  value_here e =
-      let h : ValueIn row (held_value t ls) b = record { room = f.room; has = e; value_is = or_own (row_content row b) (held_value t (layers_below k (generation_of b).base)) e ∙ f.value_is } in
-      (λ z. absurd (omega arith), λ i q. let m : row ≡ i = omega arith in subst (λ (x : ℕ). ValueIn x (held_value t ls) b) m h)
+  pub value_here : has_value (row_content row b) ≡ true → ValueIn row (held_value t ls) b
+  value_here e = record { room = f.room; has = e; value_is = or_own (row_content row b) (held_value t (layers_below k (generation_of b).base)) e ∙ f.value_is }
 
-  pub value_below : (r : ℕ) → has_value (row_content row b) ≡ false → ValueAt r (held_value t (layers_below k (generation_of b).base)) b → ValueAt r (held_value t ls) b
+  pub value_below : (r : Option ℕ) → has_value (row_content row b) ≡ false → ValueAt r (held_value t (layers_below k (generation_of b).base)) b → ValueAt r (held_value t ls) b
   value_below r e h = value_as r b (or_below (row_content row b) (held_value t (layers_below k (generation_of b).base)) e ∙ f.value_is) h
 
 -- What a look answers ---------------------------------------------------------------------------------
@@ -287,15 +285,18 @@ module _ (R : Retention) (g : Generation) (t : Slot) (u n : ℕ) (S : Retention)
       ap (λ (x : Bool). cond x (held_value t (chain g)) None) (d ∙ (λ i. serves (q i) u (m i)))
       ∙ ap (λ (x : Option LastUse). resolved_through_policy R g.anchor.number x (held_value t (chain g))) fresh
 
-  pub resolved_served : (r : ℕ) (s : List ℕ) → b ≡ true → ValueAt r (held_value t (chain g)) s → ValueAt r (resolved R g t) s
+  pub resolved_served : (r : Option ℕ) (s : List ℕ) → b ≡ true → ValueAt r (held_value t (chain g)) s → ValueAt r (resolved R g t) s
   resolved_served r s e h = value_as r s (ap (λ (x : Bool). cond x (held_value t (chain g)) None) (sym e) ∙ tested) h
 
   pub resolved_stale : b ≡ false → None ≡ resolved R g t
   resolved_stale e = ap (λ (x : Bool). cond x (held_value t (chain g)) None) (sym e) ∙ tested
 
--- The answer of a row, by the row.
-pub no_row : {o : Option Value} {b : List ℕ} → None ≡ o → ValueAt 0 o b
-no_row e = (λ z. e, λ i q. absurd (omega arith))
+-- The row of an answer.
+pub value_at : (r : Option ℕ) (o : Option Value) (b : List ℕ) (row : ℕ) → ValueAt r o b → r ≡ Some row → ValueIn row o b
+value_at r o b row h e = subst (λ (x : Option ℕ). ValueAt x o b) e h
 
-pub value_at : (r : ℕ) (o : Option Value) (b : List ℕ) → ValueAt r o b → (r ≡ 0 → ⊥) → ValueIn (r - 1) o b
-value_at r o b h n = h.1 (r - 1) (omega arith)
+pub no_row : (r : Option ℕ) (o : Option Value) (b : List ℕ) → ValueAt r o b → r ≡ None → None ≡ o
+no_row r o b h e = subst (λ (x : Option ℕ). ValueAt x o b) e h
+
+pub row_none : (r : Option ℕ) (o : Option Value) (b : List ℕ) → r ≡ None → None ≡ o → ValueAt r o b
+row_none r o b e h = subst (λ (x : Option ℕ). ValueAt x o b) (sym e) h

@@ -40,6 +40,7 @@ pub record ValueIn (row : ℕ) (o : Option Value) (b : List ℕ) : Type 0 where
   pub has : has_value (row_content row b) ≡ true
   pub value_is : own_value (row_content row b) ≡ o
 
--- An answer by one more than the number of the record that holds its value; 0 stands for no value.
-abbrev pub ValueAt : ℕ → Option Value → List ℕ → Type 0
-ValueAt r o b = (r ≡ 0 → None ≡ o) × ((row : ℕ) → r ≡ row + 1 → ValueIn row o b)
+-- An answer by the number of the record that holds its value, or none where there is no value.
+abbrev pub ValueAt : Option ℕ → Option Value → List ℕ → Type 0
+ValueAt None o b = None ≡ o
+ValueAt (Some row) o b = ValueIn row o b

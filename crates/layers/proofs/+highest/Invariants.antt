@@ -1,5 +1,0 @@
--- `layers::highest` goes down a layer.
-use Rattle.layers.proofs.+highest.Given as goal
-
-abbrev pub decreases-highest : goal.decreases-highest
-decreases-highest l = l.k
