@@ -13,7 +13,7 @@ use Rattle.image.specs.Image.{bytes_of, all_pending_words, padded}
 use Rattle.image.specs.WellFormed.{pending_ok, all_waiters}
 use Rattle.image.specs.Area.{pending_of, with_pending}
 use Rattle.image.proofs.Entries.{length_pending}
-use Rattle.records.proofs.Written.{bytes_append}
+use Rattle.image.proofs.Written.{bytes_append}
 use Rattle.awaiting.specs.Awaiting.{Ready}
 use Rattle.awaiting.proofs.Stored.{image_of, length_image, with_as, zeros_join, read_back}
 

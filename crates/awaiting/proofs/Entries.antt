@@ -19,7 +19,7 @@ use Rattle.entries.proofs.Numbers.{part_take}
 use Rattle.image.specs.Image.{bytes_of, pending_words}
 use Rattle.image.specs.Area.{pending_of, with_pending}
 use Rattle.image.proofs.PendingOk.{length_take_queued}
-use Rattle.records.proofs.Written.{placed_after}
+use Rattle.image.proofs.Written.{placed_after}
 use Rattle.awaiting.specs.Awaiting.{entry_at, Ready, Lists, entry_slots}
 use Rattle.awaiting.proofs.Places.{pending_at}
 use Rattle.awaiting.proofs.Awaits.{length_pending_of, pending_is, pending_from, pending_end}

@@ -14,7 +14,7 @@ use Rattle.words.specs.Moved.{moved}
 use Rattle.words.proofs.Moves.{gap_filled}
 use Rattle.image.specs.Image.{bytes_of}
 use Rattle.image.proofs.Words.{length_bytes_of}
-use Rattle.records.proofs.Written.{word_more, placed_after}
+use Rattle.image.proofs.Written.{word_more, placed_after}
 
 -- A slot's words written, then three more words.
 entry_placed : (at : ℕ) (t : Slot) (x y z : ℕ) (s : List ℕ) {s2 s3 s4 s5 : List ℕ} → at + awaiting_size ≤ length s

@@ -20,7 +20,7 @@ use Rattle.image.specs.Area.{pending_of, with_pending}
 use Rattle.model.proofs.WordLaws.{Fit}
 use Rattle.image.proofs.Words.{length_bytes_of, words_of_bytes}
 use Rattle.image.proofs.Entries.{length_pending, read_pendings, fit_pendings}
-use Rattle.records.proofs.Written.{bytes_append}
+use Rattle.image.proofs.Written.{bytes_append}
 use Rattle.awaiting.specs.Awaiting.{Rising, Ready, Holds}
 use Rattle.awaiting.proofs.Places.{pending_at}
 

@@ -18,7 +18,7 @@ use Rattle.image.specs.Image.{bytes_of, words_of, record_words, all_record_words
 use Rattle.image.specs.Area.{with_records}
 use Rattle.image.proofs.Words.{length_bytes_of, bytes_of_words}
 use Rattle.image.proofs.Entries.{record_wide}
-use Rattle.records.proofs.Written.{bytes_append, placed_after}
+use Rattle.image.proofs.Written.{bytes_append, placed_after}
 use Rattle.fold.specs.Stored.{renewed, kept, stored, Stored}
 
 -- A record's words --------------------------------------------------------------------------------------------------------

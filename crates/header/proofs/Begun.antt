@@ -18,7 +18,7 @@ use Rattle.words.specs.Parts.{placed}
 use Rattle.image.specs.Image.{bytes_of, retention_words, hash_words, all_record_words, all_pending_words, flat_records, layer_ends, config_words, installed_words, image_words, image, decode, overlay}
 use Rattle.image.proofs.Words.{length_bytes_of}
 use Rattle.image.proofs.ReadBack.{decode_some, length_image}
-use Rattle.records.proofs.Written.{bytes_append}
+use Rattle.image.proofs.Written.{bytes_append}
 use Rattle.header.proofs.Segments.{zero_bytes, placed_over, placed_zeros}
 use Rattle.image.specs.Lent.{store_of, IsStore}
 use Rattle.image.proofs.Areas.{word}

@@ -12,7 +12,7 @@ use Rattle.words.specs.Parts.{placed}
 use Rattle.image.specs.Image.{bytes_of}
 use Rattle.image.proofs.Words.{length_bytes_of}
 use Rattle.model.proofs.NumberLaws.{length_be}
-use Rattle.records.proofs.Written.{bytes_append, placed_after}
+use Rattle.image.proofs.Written.{bytes_append, placed_after}
 
 -- The bytes of words that are 0 are 0.
 pub zero_bytes : (n : ℕ) → bytes_of (replicate n 0) ≡ replicate (8 * n) 0

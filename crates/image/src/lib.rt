@@ -13,11 +13,11 @@ pub fn claims()
 {}
 
 // Words at `at`, one after the other.
-pub fn write_words(s: &mut [u8], at: usize, ws: &[u64])
-    requires { at + 8 * length ws.now ≤ length s.old }
-    ensures { s.new ≡ placed at (bytes_of ws.now) s.old }
+pub fn write_words<const WORDS: usize>(s: &mut [u8], at: usize, ws: [u64; WORDS])
+    requires { at + 8 * WORDS ≤ length s.old }
+    ensures { s.new ≡ placed at (bytes_of ws.entry) s.old }
 {
-    for (i, w) in ws.iter().enumerate() {
-        words::write_u64(s, at + 8 * i, *w);
+    for (k, w) in ws.iter().enumerate() {
+        words::write_u64(s, at + 8 * k, *w);
     }
 }

@@ -20,7 +20,7 @@ use Rattle.image.proofs.Words.{bytes_of_words}
 use Rattle.records.specs.Records.{words_at}
 use Rattle.records.proofs.RecordsAt.{has_value_at, held_value}
 use Rattle.records.proofs.Slots.{value_taken}
-use Rattle.records.proofs.Written.{placed_after}
+use Rattle.image.proofs.Written.{placed_after}
 use Rattle.layers.specs.Answers.{row_content}
 
 -- The four words at a place.

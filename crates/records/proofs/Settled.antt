@@ -23,7 +23,7 @@ use Rattle.records.specs.Records.{Found}
 use Rattle.records.specs.Records.{place_in, count_after, record_at, Ready, Holds}
 use Rattle.records.proofs.Places.{found_lt, absent_le, found_slot, found_content, absent_none, insert_found, insert_absent, length_insert}
 use Rattle.records.proofs.RecordsAt.{records_length}
-use Rattle.records.proofs.Written.{placed_first}
+use Rattle.image.proofs.Written.{placed_first}
 use Rattle.records.proofs.Stored.{content_replaced, between}
 
 -- A record set to what it holds.

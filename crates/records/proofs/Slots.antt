@@ -1,14 +1,15 @@
 -- Words read out of bytes, and the order of slots word by word.
-use Prim.Native.Nat.{ℕ, zero, suc, ◌+◌, ◌*◌, ◌<◌}
-use mathlib.Core.Path.{◌≡◌, refl, sym, ap, ◌∙◌}
-use mathlib.Core.Bool.{false, cond}
+use Prim.Native.Nat.{ℕ, zero, suc, ◌+◌, ◌*◌, ◌≤◌, ◌<◌}
+use mathlib.Core.Path.{◌≡◌, refl, sym, ap, ap₂, ◌∙◌}
+use mathlib.Core.Bool.{false}
 use mathlib.Core.List.{List, [], ◌∷◌}
 use native.Mathlib.Nat.{add_assoc, zero-add, suc-add}
 use native.Mathlib.Omega.{arith}
 use lib.Dec.{eqb, ltb}
-use lib.ListN.{take, drop, get_or}
+use lib.ListN.{length, take, drop, get_or}
+use Rattle.std.proofs.lemmas.List.{drop_more, drop_all}
 use lib.Seq.{drop-drop}
-use borrow.Author.Tests.{eq-eqb, ne_eqb, le-ltb, ltb-true}
+use borrow.Author.Tests.{eq-eqb, ne_eqb, le-ltb}
 use Rattle.layout.specs.Layout.{record_size, slot_width, value_index, value_offset}
 use Rattle.model.specs.declared.delta_snapshot.Slot.{Slot}
 use Rattle.model.specs.Numbers.{num}
@@ -19,8 +20,8 @@ use Rattle.words.specs.Parts.{part}
 use Rattle.image.specs.Image.{words_of, read_slot}
 use Rattle.std.specs.declared.cmp.Ordering.{Ordering}
 use Rattle.std.specs.Ordering.{nat_cmp}
-use Rattle.std.specs.declared.cmp.Ordering.TheVariants.{Less, Equal, Greater}
-use Rattle.records.specs.Records.{slot_order, words_at}
+use Rattle.std.specs.declared.cmp.Ordering.TheVariants.{Equal}
+use Rattle.records.specs.Records.{words_order, slot_order, words_at}
 
 -- Word i of the words from place `at` on.
 pub word_at : (n i at : ℕ) (s : List ℕ) → i < n → get_or (words_of n (drop at s)) i 0 ≡ num (part (at + 8 * i) 8 s)
@@ -62,13 +63,9 @@ words_drop (suc k) n b =
 value_words : (i : ℕ) (s : List ℕ) → words_of 5 (drop (i * record_size + value_offset) s) ≡ drop value_index (words_at i s)
 value_words i s = ap (words_of 5) (sym (drop-drop value_offset (i * record_size) s)) ∙ sym (words_drop value_index 5 (drop (i * record_size) s))
 
--- How a list of words stands to another of as many, the highest first.
-unfoldable pub words_order : List ℕ → List ℕ → Ordering
-words_order xs ys = cond (words_eqb xs ys) Equal (cond (words_ltb xs ys) Less Greater)
-
-pub slot_order_words : (at : ℕ) (s : List ℕ) (t : Slot) → words_order (words_from at s) (slot_words t) ≡ slot_order (read_slot (words_of slot_width (drop at s))) t
-unfolding words_order slot_order slot_eqb slot_ltb
-slot_order_words at s t = sym (ap (λ (l : List ℕ). slot_order (read_slot l) t) (slot_read at s))
+pub slot_order_words : (at : ℕ) (s : List ℕ) (t : Slot) → words_order (words_of slot_width (drop at s)) (slot_words t) ≡ slot_order (read_slot (words_of slot_width (drop at s))) t
+unfolding words_order slot_order slot_eqb slot_ltb words_of
+slot_order_words at s t = refl
 
 -- The first words differ and decide; or they are equal and the rest decides. The first words are read as a and b.
 pub words_differ : {a b x y : ℕ} (xs ys : List ℕ) {r : Ordering} → r ≡ nat_cmp a b → a ≡ x → b ≡ y → (a ≡ b → ⊥) → r ≡ words_order (x ∷ xs) (y ∷ ys)
@@ -82,11 +79,20 @@ pub words_same : {a x y : ℕ} (xs ys : List ℕ) → a ≡ x → a ≡ y → wo
 unfolding words_order words_eqb words_ltb
 words_same {a} {x} {y} xs ys e f = rw (eq-eqb x y (sym e ∙ f), le-ltb x y (omega arith))
 
--- The last words decide.
-pub words_end : {a b x y : ℕ} {r : Ordering} → r ≡ nat_cmp a b → a ≡ x → b ≡ y → r ≡ words_order (x ∷ []) (y ∷ [])
-unfolding words_order words_eqb words_ltb
-words_end {a} {b} {x} {y} p e f =
-    rw (← e, ← f) (p ∙ split (ltb a b) (λ q. rw (q, ne_eqb a b (λ z. absurd (omega (arith, ltb-true a b q))))) (λ q. rw q (split (eqb a b) (λ z. rw z) (λ z. rw z))))
+-- Two lists of words from word k on: it decides, or leaves it to those after it; past the end they are equal.
+module _ (xs ys : List ℕ) (k : ℕ) {x y : ℕ} (h : k < length xs) (l : k < length ys) (ex : x ≡ get_or xs k 0) (ey : y ≡ get_or ys k 0) where
+  both_more : words_order (drop k xs) (drop k ys) ≡ words_order (get_or xs k 0 ∷ drop (k + 1) xs) (get_or ys k 0 ∷ drop (k + 1) ys)
+  both_more = ap₂ (λ (v w : List ℕ). words_order v w) (drop_more xs k 0 h) (drop_more ys k 0 l)
+
+  pub rest_differs : {r : Ordering} → r ≡ nat_cmp x y → (x ≡ y → ⊥) → r ≡ words_order (drop k xs) (drop k ys)
+  rest_differs p d = words_differ (drop (k + 1) xs) (drop (k + 1) ys) p ex ey d ∙ sym both_more
+
+  pub rest_same : x ≡ y → words_order (drop k xs) (drop k ys) ≡ words_order (drop (k + 1) xs) (drop (k + 1) ys)
+  rest_same e = both_more ∙ sym (words_same (drop (k + 1) xs) (drop (k + 1) ys) ex (e ∙ ey))
+
+pub rest_equal : (xs ys : List ℕ) (k : ℕ) → length xs ≤ k → length ys ≤ k → words_order (drop k xs) (drop k ys) ≡ Equal
+unfolding words_order words_eqb
+rest_equal xs ys k h l = rw (drop_all k xs h, drop_all k ys l)
 
 -- A slot of words read one by one.
 pub slot_taken : (at : ℕ) (s : List ℕ) {a0 a1 a2 a3 a4 a5 a6 : ℕ}

@@ -19,7 +19,7 @@ use Rattle.image.specs.Area.{with_records}
 use Rattle.image.proofs.Words.{length_bytes_of}
 use Rattle.image.proofs.Entries.{length_records}
 use Rattle.records.specs.Records.{record_at}
-use Rattle.records.proofs.Written.{bytes_append}
+use Rattle.image.proofs.Written.{bytes_append}
 
 -- The bytes of records --------------------------------------------------------------------------------
 

@@ -2,7 +2,7 @@
 use Rattle.std.specs.Prelude.{ℕ, suc, ◌+◌, ◌*◌, ◌≤◌, ◌<◌, ◌≡◌, true, cond, List, [], ◌∷◌, length, drop, get_or, Err, Ok}
 use Rattle.layout.specs.Layout.{record_size, record_width, slot_width}
 use Rattle.model.specs.declared.delta_snapshot.Slot.{Slot}
-use Rattle.model.specs.Slots.{slot_eqb, slot_ltb}
+use Rattle.model.specs.Slots.{words_eqb, words_ltb, slot_eqb, slot_ltb}
 use Rattle.model.specs.Layers.{LayerOf, Record, Layer}
 use Rattle.image.specs.Image.{words_of, read_slot, read_record}
 use Rattle.image.specs.WellFormed.{rising}
@@ -10,6 +10,10 @@ use Rattle.image.specs.Area.{records_of, with_records}
 use Rattle.std.specs.declared.result.Result.{Result}
 use Rattle.std.specs.declared.cmp.Ordering.{Ordering}
 use Rattle.std.specs.declared.cmp.Ordering.TheVariants.{Less, Equal, Greater}
+
+-- How a list of words stands to another of as many, the highest first.
+unfoldable pub words_order : List ℕ → List ℕ → Ordering
+words_order xs ys = cond (words_eqb xs ys) Equal (cond (words_ltb xs ys) Less Greater)
 
 -- How a slot stands to another.
 unfoldable pub slot_order : Slot → Slot → Ordering

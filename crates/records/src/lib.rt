@@ -11,7 +11,7 @@ ghost use Rattle.words.specs.Parts.{part, placed};
 ghost use Rattle.image.specs.Image.{words_of, bytes_of, read_slot, read_record};
 ghost use Rattle.image.specs.WellFormed.{rising};
 ghost use Rattle.image.specs.Area.{records_of};
-ghost use Rattle.records.specs.Records.{Found, slot_order, place_in, Entries, words_at, Ready, Holds};
+ghost use Rattle.records.specs.Records.{Found, words_order, slot_order, place_in, Entries, words_at, Ready, Holds};
 
 use model::delta_snapshot::{Content, Slot};
 use model::storage_memo::{Address, U256};
@@ -46,39 +46,52 @@ pub fn slot_at(s: &[u8], at: usize) -> Slot
     }
 }
 
-// How the slot in the seven words at `at` stands to `slot`: the first word that differs decides.
-// The last two words are read together, so that the compiler puts the last read in place too.
+// A slot's words.
+pub fn slot_words(slot: Slot) -> [u64; layout::SLOT_WIDTH]
+    ensures { result ≡ slot_words slot }
+{
+    let a = slot.address;
+    let i = slot.index;
+    [u64::from(a.w0), a.w1, a.w2, i.w0, i.w1, i.w2, i.w3]
+}
+
+// The seven words at `at`, as the words of a slot. The first is not known to be an address's.
+pub fn read_slot_words(s: &[u8], at: usize) -> [u64; layout::SLOT_WIDTH]
+    requires { at + slot_size ≤ length s.now }
+    ensures { result ≡ words_of slot_width (drop at s.now) }
+{
+    [
+        words::read_u64(s, at),
+        words::read_u64(s, at + 8),
+        words::read_u64(s, at + 16),
+        words::read_u64(s, at + 24),
+        words::read_u64(s, at + 32),
+        words::read_u64(s, at + 40),
+        words::read_u64(s, at + 48),
+    ]
+}
+
+// How the seven words at `at` stand to others: the first word that differs decides.
+// By words and not as slices of bytes, which are compared by a call: with them a check takes two to twelve times as long.
+pub fn compare_words(s: &[u8], at: usize, ws: [u64; layout::SLOT_WIDTH]) -> Ordering
+    requires { at + slot_size ≤ length s.now }
+    ensures { result ≡ words_order (words_of slot_width (drop at s.now)) ws }
+{
+    for (k, y) in ws.iter().enumerate() {
+        let x = words::read_u64(s, at + 8 * k);
+        if x != *y {
+            return x.cmp(y);
+        }
+    }
+    Ordering::Equal
+}
+
+// How the slot in the seven words at `at` stands to `slot`.
 pub fn compare(s: &[u8], at: usize, slot: Slot) -> Ordering
     requires { at + slot_size ≤ length s.now }
     ensures { result ≡ slot_order (read_slot (words_of slot_width (drop at s.now))) slot }
 {
-    let a = words::read_u64(s, at);
-    let b = u64::from(slot.address.w0);
-    if a != b {
-        return a.cmp(&b);
-    }
-    let a = words::read_u64(s, at + 8);
-    if a != slot.address.w1 {
-        return a.cmp(&slot.address.w1);
-    }
-    let a = words::read_u64(s, at + 16);
-    if a != slot.address.w2 {
-        return a.cmp(&slot.address.w2);
-    }
-    let a = words::read_u64(s, at + 24);
-    if a != slot.index.w0 {
-        return a.cmp(&slot.index.w0);
-    }
-    let a = words::read_u64(s, at + 32);
-    if a != slot.index.w1 {
-        return a.cmp(&slot.index.w1);
-    }
-    let a = words::read_u64(s, at + 40);
-    let b = words::read_u64(s, at + 48);
-    if a != slot.index.w2 {
-        return a.cmp(&slot.index.w2);
-    }
-    b.cmp(&slot.index.w3)
+    compare_words(s, at, slot_words(slot))
 }
 
 // The last use of record i.
@@ -124,23 +137,7 @@ pub fn write_slot(s: &mut [u8], at: usize, slot: Slot)
     requires { at + slot_size ≤ length s.old }
     ensures { s.new ≡ placed at (bytes_of (slot_words slot)) s.old }
 {
-    words::write_u64(s, at, u64::from(slot.address.w0));
-    words::write_u64(s, at + 8, slot.address.w1);
-    words::write_u64(s, at + 16, slot.address.w2);
-    words::write_u64(s, at + 24, slot.index.w0);
-    words::write_u64(s, at + 32, slot.index.w1);
-    words::write_u64(s, at + 40, slot.index.w2);
-    words::write_u64(s, at + 48, slot.index.w3);
-}
-
-// Writes words at `at`, one after the other.
-fn write_words<const WORDS: usize>(s: &mut [u8], at: usize, ws: [u64; WORDS])
-    requires { at + 8 * WORDS ≤ length s.old }
-    ensures { s.new ≡ placed at (bytes_of ws.entry) s.old }
-{
-    for (k, w) in ws.iter().enumerate() {
-        words::write_u64(s, at + 8 * k, *w);
-    }
+    image::write_words(s, at, slot_words(slot));
 }
 
 // The words of a content: its last use, whether it has a value, the value, and no second use.
@@ -159,7 +156,7 @@ pub fn write_content(s: &mut [u8], at: usize, c: Content)
     requires { at + content_size ≤ length s.old }
     ensures { s.new ≡ placed at (bytes_of (content_words c)) s.old }
 {
-    write_words(s, at, content_words(c));
+    image::write_words(s, at, content_words(c));
 }
 
 // The place of a slot among n entries of `wide` bytes each, which begin with their slots and rise, by halves.
@@ -207,7 +204,7 @@ pub fn insert_entry<const WORDS: usize>(
     let wide = SLOT_SIZE + 8 * WORDS;
     words::move_up(s, i * wide, (n - i) * wide, wide);
     write_slot(s, i * wide, slot);
-    write_words(s, i * wide + SLOT_SIZE, rest);
+    image::write_words(s, i * wide + SLOT_SIZE, rest);
 }
 
 // Sets the content of a slot's record, which stands or goes at `place`; the number of records then.

@@ -24,7 +24,7 @@ use Rattle.image.proofs.Words.{length_bytes_of}
 use Rattle.image.proofs.Entries.{length_records}
 use Rattle.image.proofs.Areas.{word, words_append, GenerationBytes}
 use Rattle.image.proofs.Lent.{generation_in}
-use Rattle.records.proofs.Written.{bytes_append}
+use Rattle.image.proofs.Written.{bytes_append}
 use Rattle.header.proofs.Segments.{zero_bytes}
 use Rattle.top.proofs.Changed.{top_exact}
 use Rattle.top.proofs.Tops.{lent_back}

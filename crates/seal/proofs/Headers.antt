@@ -18,7 +18,7 @@ use Rattle.words.specs.Parts.{placed}
 use Rattle.image.specs.Image.{bytes_of, hash_words, all_record_words, all_pending_words, flat_records, layer_ends, padded, config_words, image_words, image, overlay}
 use Rattle.image.proofs.Words.{length_bytes_of, length_padded}
 use Rattle.image.proofs.Entries.{length_records, length_flat, length_ends}
-use Rattle.records.proofs.Written.{bytes_append}
+use Rattle.image.proofs.Written.{bytes_append}
 use Rattle.header.proofs.Segments.{zero_bytes, placed_over, placed_zeros, first_word, next_word}
 use Rattle.header.proofs.Images.{length_hash, length_retention}
 use Rattle.header.proofs.Begun.{anchor_bytes, length_config, length_anchor}

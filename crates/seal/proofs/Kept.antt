@@ -23,7 +23,7 @@ use Rattle.image.proofs.Entries.{length_ends, length_flat}
 use Rattle.image.proofs.ReadBack.{length_image}
 use Rattle.image.proofs.Areas.{word, GenerationBytes}
 use Rattle.image.proofs.Lent.{generation_in}
-use Rattle.records.proofs.Written.{bytes_append}
+use Rattle.image.proofs.Written.{bytes_append}
 use Rattle.header.proofs.Images.{store_split, length_hash, length_retention}
 use Rattle.header.proofs.Begun.{length_config}
 use Rattle.seal.specs.Sealed.{begun_on, header_words}

@@ -23,7 +23,7 @@ use Rattle.image.proofs.Facts.{GenerationFacts, generation_facts, StoreFacts, st
 use Rattle.image.proofs.Extent.{Room, room}
 use Rattle.image.proofs.ReadBack.{decode_some, length_image}
 use Rattle.image.proofs.Areas.{words_append}
-use Rattle.records.proofs.Written.{bytes_append}
+use Rattle.image.proofs.Written.{bytes_append}
 use Rattle.top.specs.Top.{topped}
 use Rattle.header.proofs.Segments.{zero_bytes, placed_over}
 use Rattle.header.proofs.Images.{store_split, length_retention, length_hash}

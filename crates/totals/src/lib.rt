@@ -49,7 +49,7 @@ pub fn write_totals(s: &mut [u8], t: ReadTotals)
     requires { ends_offset ≤ length s.old }
     ensures { s.new ≡ with_totals t s.old }
 {
-    image::write_words(s, layout::ACCEPTED_OFFSET, &words_of(t));
+    image::write_words(s, layout::ACCEPTED_OFFSET, words_of(t));
 }
 
 // A read counts itself in the totals that it is lent; `joined` says whether the slot of one that waits was awaiting already.

@@ -31,7 +31,7 @@ use Rattle.image.proofs.Areas.{words_part, GenerationBytes}
 use Rattle.image.proofs.Extent.{fit_totals}
 use Rattle.image.proofs.Lent.{store_in, generation_in}
 use Rattle.image.proofs.ReadBack.{decode_some, length_image}
-use Rattle.records.proofs.Written.{bytes_append}
+use Rattle.image.proofs.Written.{bytes_append}
 use Rattle.awaiting.specs.Awaiting.{Rising, Ready, Holds, Lists}
 use Rattle.awaiting.proofs.Area.{area_of, area_changed, ready_area}
 use Rattle.awaiting.proofs.Stored.{rising_of}

@@ -1,6 +1,6 @@
 -- `header::write_anchor` meets its contract: its words are placed one after the other. Assumes nothing.
 use Rattle.layout.specs.Layout.{installed_offset}
-use Rattle.records.proofs.Written.{seven_words}
+use Rattle.image.proofs.Written.{seven_words}
 use Rattle.header.proofs.write_anchor.Goals as goal
 
 pub returns : goal.returns
