@@ -140,12 +140,12 @@ open_bytes b cfg h =
     ∙ sym (ap (placed 0 c) inner ∙ placed_zeros [] c r 0 size refl (omega (arith, length_config cfg)))
 
 -- The same in the steps that the code takes.
-pub begun_by : (b : List ℕ) (a : ReadAnchor) (n : ℕ) (ws t u : List ℕ) → Bytes b → IsStore b → n ≡ word capacity_offset b → ws ≡ hash_words a.hash
-    → t ≡ placed installed_offset (replicate (records_offset - installed_offset + record_size * n) 0) b → u ≡ placed installed_offset (bytes_of (1 ∷ a.number ∷ ws)) t → u ≡ overlay (begun (store_of b).config a) b
-begun_by b a n ws t u f e q w p r =
+pub begun_by : (b : List ℕ) (a : ReadAnchor) (n : ℕ) (t u : List ℕ) → Bytes b → IsStore b → n ≡ word capacity_offset b
+    → t ≡ placed installed_offset (replicate (records_offset - installed_offset + record_size * n) 0) b → u ≡ placed installed_offset (anchor_bytes a) t → u ≡ overlay (begun (store_of b).config a) b
+begun_by b a n t u f e q p r =
     let k : n ≡ (store_of b).config.capacity = q ∙ (store_in b e).capacity_word in
     let m : records_offset - installed_offset + record_size * n ≡ store_size (store_of b).config.capacity - installed_offset = omega arith in
-    r ∙ ap₂ (λ (x y : List ℕ). placed installed_offset (bytes_of (1 ∷ a.number ∷ x)) y) w (p ∙ ap (λ (i : ℕ). placed installed_offset (replicate i 0) b) m) ∙ sym (fresh_bytes b (store_of b) a f e)
+    r ∙ ap (placed installed_offset (anchor_bytes a)) (p ∙ ap (λ (i : ℕ). placed installed_offset (replicate i 0) b) m) ∙ sym (fresh_bytes b (store_of b) a f e)
 
 pub opened_by : (b : List ℕ) (n d depth : ℕ) (R : Retention) (ws t u : List ℕ) → store_size n ≤ length b → depth ≡ max 1 d → ws ≡ retention_words R
     → t ≡ placed 0 (replicate (records_offset + record_size * n) 0) b → u ≡ placed 0 (bytes_of (magic ∷ n ∷ depth ∷ ws)) t → u ≡ overlay (empty (config_of n d R)) b

@@ -16,11 +16,6 @@ use Rattle.image.proofs.Words.{length_bytes_of}
 use Rattle.model.specs.declared.storage_memo.U256.{U256}
 use Rattle.image.proofs.Written.{bytes_append, placed_after}
 
--- The words of a content, by what it holds.
-pub content_put : (at : ℕ) (c : Content) (h : Option U256) (s : List ℕ) {t : List ℕ} → c.held ≡ h → t ≡ placed at (bytes_of (c.used ∷ (value_words (h) ++ (0 ∷ [])))) s
-    → t ≡ placed at (bytes_of (content_words c)) s
-content_put at c h s e f = f ∙ ap (λ (x : Option U256). placed at (bytes_of (c.used ∷ (value_words (x) ++ (0 ∷ [])))) s) (sym e)
-
 -- A run moved up.
 length_moved : (at len by : ℕ) (s : List ℕ) → at + by + len ≤ length s → length (moved at len by s) ≡ length s
 length_moved at len by s h = simp (length-append, length-take, length-drop) (omega arith)
