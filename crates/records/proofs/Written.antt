@@ -1,19 +1,15 @@
--- A content, and an entry, put by their words.
-use Rattle.std.specs.Prelude.{Option}
+-- An entry put by its words.
 use Prim.Native.Nat.{ℕ, ◌+◌, ◌*◌, ◌≤◌}
 use mathlib.Core.Path.{◌≡◌, sym, ap, ◌∙◌}
-use mathlib.Core.List.{List, [], ◌∷◌, ◌++◌}
+use mathlib.Core.List.{List, ◌++◌}
 use native.Mathlib.Omega.{arith}
 use lib.ListN.{length, take, drop, length-append, length-take, length-drop}
 use Rattle.layout.specs.Layout.{slot_size, slot_width}
-use Rattle.model.specs.declared.delta_snapshot.Content.{Content}
-use Rattle.model.specs.Contents.{value_words, content_words}
 use Rattle.words.specs.Parts.{part, placed}
 use Rattle.words.specs.Moved.{moved}
 use Rattle.words.proofs.Moves.{gap_filled}
 use Rattle.image.specs.Image.{bytes_of}
 use Rattle.image.proofs.Words.{length_bytes_of}
-use Rattle.model.specs.declared.storage_memo.U256.{U256}
 use Rattle.image.proofs.Written.{bytes_append, placed_after}
 
 -- A run moved up.
