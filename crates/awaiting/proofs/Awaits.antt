@@ -17,8 +17,8 @@ use Rattle.words.specs.Parts.{part}
 use Rattle.image.specs.Image.{words_of, entries, read_slot, read_pending}
 use Rattle.image.specs.Area.{pending_of}
 use Rattle.records.proofs.Slots.{words_take, words_drop, word_at}
-use Rattle.awaiting.specs.Awaiting.{entry_at}
-use Rattle.awaiting.proofs.Places.{pending_at, as_records, slot_as}
+use Rattle.awaiting.specs.Awaiting.{entry_at, as_records}
+use Rattle.awaiting.proofs.Places.{pending_at, slot_as}
 
 -- The first awaiting slot, and those after it.
 pub pending_more : (n : ℕ) (s : List ℕ) → pending_of (suc n) s ≡ read_pending (words_of awaiting_width s) ∷ pending_of n (drop awaiting_size s)

@@ -7,33 +7,16 @@ use mathlib.Core.List.{List, [], ◌∷◌, ◌++◌, map}
 use native.Mathlib.Omega.{arith}
 use lib.Dec.{eqb, leb}
 use lib.ListN.{length, drop, get_or, length-map}
-use borrow.Author.Tests.{eq-eqb, ne_eqb}
 use Rattle.std.specs.List.{list_any, list_all, filter, sum_by}
 use Rattle.std.proofs.lemmas.List.Sums.{sum_by-cons}
 use Rattle.model.specs.declared.delta_snapshot.Slot.{Slot}
-use Rattle.model.specs.Slots.{words_eqb, slot_eqb, mem}
+use Rattle.model.specs.Slots.{slot_eqb, mem}
 use Rattle.model.specs.Reads.{Pending, waiters_of, is_taken, woken, all_taken, has_duplicate, member_slots, if_valued, if_refused, valued_slots, refused_slots}
 use Rattle.model.specs.Entries.{slot_of, u256_at, member_of, chunks, slots_of, members_of, known_flags, flags_known}
-use Rattle.model.proofs.SlotLaws.{and_true}
 use Rattle.image.specs.WellFormed.{all_waiters}
 use Rattle.image.proofs.PendingOk.{all_waiters_remove_all, woken_members}
 use Rattle.entries.proofs.Chunks.{chunks_more, chunks_none}
 use Rattle.awaiting.specs.Awaiting.{entry_slots}
-
--- Words ------------------------------------------------------------------------------------------------
-
--- Equal words, and words that differ.
-pub words_alike : {x y : ℕ} (xs ys : List ℕ) → x ≡ y → words_eqb xs ys ≡ words_eqb (x ∷ xs) (y ∷ ys)
-unfolding words_eqb
-words_alike {x} {y} xs ys e = rw (eq-eqb x y e)
-
-pub words_apart : {x y : ℕ} (xs ys : List ℕ) → (x ≡ y → ⊥) → false ≡ words_eqb (x ∷ xs) (y ∷ ys)
-unfolding words_eqb
-words_apart {x} {y} xs ys d = rw (ne_eqb x y d)
-
-pub last_word : (x y : ℕ) → words_eqb (x ∷ []) (y ∷ []) ≡ eqb x y
-unfolding words_eqb
-last_word x y = and_true (eqb x y)
 
 -- Entries -------------------------------------------------------------------------------------------------
 

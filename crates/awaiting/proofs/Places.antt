@@ -2,8 +2,8 @@
 use Rattle.std.specs.Prelude.{Err, Ok}
 use Prim.Native.Nat.{ℕ, zero, suc, ◌+◌, ◌≤◌, ◌<◌}
 use mathlib.Core.Path.{◌≡◌, refl, ap, ◌∙◌}
-use mathlib.Core.Bool.{Bool, true, false, cond}
-use mathlib.Core.List.{List, [], ◌∷◌, ◌++◌, map}
+use mathlib.Core.Bool.{Bool, true, false}
+use mathlib.Core.List.{List, [], ◌∷◌, ◌++◌}
 use native.Mathlib.Omega.{arith}
 use lib.Dec.{ltb}
 use lib.ListN.{length, take, drop, get_or}
@@ -11,14 +11,12 @@ use Rattle.model.specs.declared.delta_snapshot.Slot.{Slot}
 use Rattle.model.specs.Slots.{slot_eqb, slot_ltb}
 use Rattle.model.specs.Reads.{Pending, waiters_of, is_awaiting, is_taken, join, remove_pending}
 use Rattle.model.proofs.SlotLaws.{split, and_left, and_right, slot_eqb_true, slot_eqb_sym, slot_ltb_trans, slot_ltb_eqb}
-use Rattle.model.specs.Contents.{use_only}
-use Rattle.model.specs.Layers.{Layer}
 use Rattle.image.specs.WellFormed.{rising_from, rising, slot_fits, pending_ok_from, pending_ok}
 use Rattle.image.specs.Image.{read_pending}
 use Rattle.records.specs.Records.{Found}
 use Rattle.records.specs.Records.{record_at}
 use Rattle.records.specs.Records as records
-use Rattle.awaiting.specs.Awaiting.{place_from, place_in}
+use Rattle.awaiting.specs.Awaiting.{as_records, place_in}
 
 -- Awaiting slot i of a list. Past its end there is none, and every word is 0.
 abbrev pub pending_at : ℕ → List Pending → Pending
@@ -26,22 +24,14 @@ pending_at i q = get_or q i (read_pending [])
 
 -- The search -----------------------------------------------------------------------------------------------
 
--- Awaiting slots as records of the same slots, for the laws of the search among records.
-abbrev pub as_records : List Pending → Layer
-as_records q = map (λ (w : Pending). record { slot = w.slot; content = use_only 0 }) q
-
 pub slot_as : (q : List Pending) (i : ℕ) → (record_at i (as_records q)).slot ≡ (pending_at i q).slot
 slot_as [] i = refl
 slot_as (w ∷ q) zero = refl
 slot_as (w ∷ q) (suc i) = slot_as q i
 
-place_as_from : (b : ℕ) (t : Slot) (q : List Pending) → records.place_from b t (as_records q) ≡ place_from b t q
-unfolding records.place_from place_from
-place_as_from b t [] = refl
-place_as_from b t (w ∷ q) = ap (λ (x : Found). cond (slot_eqb w.slot t) (Ok b) (cond (slot_ltb t w.slot) (Err b) x)) (place_as_from (suc b) t q)
-
-pub place_as : (t : Slot) (q : List Pending) → records.place_in t (as_records q) ≡ place_in t q
-place_as t q = place_as_from 0 t q
+-- The place among awaiting slots that stand from place b on.
+abbrev place_from : ℕ → Slot → List Pending → Found
+place_from b t q = records.place_from b t (as_records q)
 
 rising_as_from : (s : Slot) (q : List Pending) → pending_ok_from s q ≡ true → rising_from s (as_records q) ≡ true
 unfolding pending_ok_from rising_from
@@ -70,7 +60,7 @@ pub record FoundAt (t : Slot) (q : List Pending) (i : ℕ) : Type 0 where
   pub removes : remove_pending t q ≡ take i q ++ drop (suc i) q
 
 at_least : (q : List Pending) (b : ℕ) (t : Slot) (k : ℕ) → place_from b t q ≡ Ok k → b ≤ k
-unfolding place_from
+unfolding records.place_from
 at_least [] b t k e = let z : ◌≡◌ {A = ℕ} 0 1 = cc in absurd (omega arith)
 at_least (w ∷ q) b t k e =
     split (slot_eqb w.slot t)
@@ -82,7 +72,7 @@ at_least (w ∷ q) b t k e =
 -- The search goes past the first slot: it is not the one, and does not come after it.
 passed : (w : Pending) (q : List Pending) (b : ℕ) (t : Slot) (k : ℕ) → b < k → place_from b t (w ∷ q) ≡ Ok k
     → (slot_eqb w.slot t ≡ false) × (slot_ltb t w.slot ≡ false) × (place_from (suc b) t q ≡ Ok k)
-unfolding place_from
+unfolding records.place_from
 passed w q b t k h e =
     split (slot_eqb w.slot t)
     (λ p. let f : Ok b ≡ Ok k = rw p at e in let z : b ≡ k = cc in absurd (omega arith))
@@ -91,7 +81,7 @@ passed w q b t k h e =
     (λ o. (p, o, rw (p, o) at e)))
 
 here : (w : Pending) (q : List Pending) (b : ℕ) (t : Slot) → place_from b t (w ∷ q) ≡ Ok b → slot_eqb w.slot t ≡ true
-unfolding place_from
+unfolding records.place_from
 here w q b t e =
     split (slot_eqb w.slot t)
     (λ p. p)
@@ -100,7 +90,7 @@ here w q b t e =
     (λ o. let h : suc b ≤ b = at_least q (suc b) t b (rw (p, o) at e) in absurd (omega arith)))
 
 found_from : (q : List Pending) (b : ℕ) (t : Slot) (i : ℕ) → place_from b t q ≡ Ok (b + i) → FoundAt t q i
-unfolding place_from waiters_of is_taken is_awaiting join remove_pending
+unfolding records.place_from waiters_of is_taken is_awaiting join remove_pending
 found_from [] b t i e = let z : ◌≡◌ {A = ℕ} 0 1 = cc in absurd (omega arith)
 found_from (w ∷ q) b t zero e =
     let n : b + 0 ≡ b = omega arith in
@@ -131,7 +121,7 @@ pub record AbsentAt (t : Slot) (q : List Pending) (i : ℕ) : Type 0 where
   pub joins : join t q ≡ take i q ++ (record { slot = t; waiters = 1; taken = false } ∷ drop i q)
 
 absent_least : (q : List Pending) (b : ℕ) (t : Slot) (k : ℕ) → place_from b t q ≡ Err k → b ≤ k
-unfolding place_from
+unfolding records.place_from
 absent_least [] b t k e = let z : b ≡ k = cc in omega arith
 absent_least (w ∷ q) b t k e =
     split (slot_eqb w.slot t)
@@ -141,7 +131,7 @@ absent_least (w ∷ q) b t k e =
     (λ o. let h : suc b ≤ k = absent_least q (suc b) t k (rw (p, o) at e) in omega arith))
 
 absent_from : (q : List Pending) (b : ℕ) (t : Slot) (i : ℕ) → place_from b t q ≡ Err (b + i) → AbsentAt t q i
-unfolding place_from join
+unfolding records.place_from join
 absent_from [] b t zero e = record { within = omega arith; joins = refl }
 absent_from [] b t (suc i) e = let z : b ≡ b + suc i = cc in absurd (omega arith)
 absent_from (w ∷ q) b t zero e =
@@ -197,7 +187,7 @@ below_all t s (w ∷ q) p e =
     not_among_more t w q (slot_eqb_sym w.slot t ∙ slot_ltb_eqb t w.slot x) (below_all t w.slot q x (rest_ok w q (and_right (slot_ltb s w.slot) _ e)))
 
 not_among_from : (q : List Pending) (b : ℕ) (t : Slot) (k : ℕ) → pending_ok q ≡ true → place_from b t q ≡ Err k → NotAmong t q
-unfolding place_from
+unfolding records.place_from
 not_among_from [] b t k h e = not_among_none t
 not_among_from (w ∷ q) b t k h e =
     split (slot_eqb w.slot t)

@@ -1,27 +1,28 @@
 -- What the functions over awaiting slots in bytes say: an awaiting slot in its bytes, the place of a slot, what a change asks and leaves, the slots of a lent list.
-use Rattle.std.specs.Prelude.{ℕ, suc, ◌*◌, ◌/◌, ◌^◌, ◌≤◌, ◌<◌, ◌≡◌, true, cond, List, [], ◌∷◌, map, length, drop, Err, Ok}
+use Rattle.std.specs.Prelude.{ℕ, ◌*◌, ◌/◌, ◌^◌, ◌≤◌, ◌<◌, ◌≡◌, true, List, map, length, drop}
 use Rattle.layout.specs.Layout.{awaiting_size, awaiting_table_size, awaiting_width}
 use Rattle.model.specs.declared.delta_snapshot.Slot.{Slot}
-use Rattle.model.specs.Slots.{slot_eqb, slot_ltb}
+use Rattle.model.specs.Contents.{use_only}
+use Rattle.model.specs.Layers.{Layer}
 use Rattle.model.specs.Reads.{Pending, queued}
 use Rattle.model.specs.Entries.{slot_of, chunks, with_slots}
 use Rattle.image.specs.Image.{words_of, read_pending}
 use Rattle.image.specs.WellFormed.{pending_ok, all_waiters}
 use Rattle.image.specs.Area.{pending_of, with_pending}
 use Rattle.records.specs.Records.{Found}
+use Rattle.records.specs.Records as records
 
 -- Awaiting slot i in the bytes that begin with awaiting slots.
 abbrev pub entry_at : ℕ → List ℕ → Pending
 entry_at i s = read_pending (words_of awaiting_width (drop (i * awaiting_size) s))
 
--- The place of a slot among awaiting slots that rise and stand from place i on: where it is, or where it would go.
-unfoldable pub place_from : ℕ → Slot → List Pending → Found
-place_from i t [] = Err i
-place_from i t (w ∷ q) = cond (slot_eqb w.slot t) (Ok i) (cond (slot_ltb t w.slot) (Err i) (place_from (suc i) t q))
+-- Awaiting slots as records of the same slots, whose contents are not looked at.
+abbrev pub as_records : List Pending → Layer
+as_records q = map (λ (w : Pending). record { slot = w.slot; content = use_only 0 }) q
 
--- The same among all awaiting slots.
+-- The place of a slot among awaiting slots that rise: where it is, or where it would go.
 abbrev pub place_in : Slot → List Pending → Found
-place_in t q = place_from 0 t q
+place_in t q = records.place_in t (as_records q)
 
 -- What a look-up asks: the bytes hold n awaiting slots, and these rise.
 pub record Rising (n : ℕ) (s : List ℕ) : Type 0 where

@@ -1,73 +1,171 @@
 // The awaiting slots of a store in bytes, rising by slot: each has the slot's words, its waiters, and 1 if it is taken.
 #![tactic(auto)]
 
-ghost use Rattle.std.specs.Prelude.{◌≡◌, false, cond, ◌+◌, ◌-◌, ◌*◌, ◌≤◌, ◌<◌, ◌∷◌, ◌++◌, [], eqb, length, take, drop, get_or, replicate};
+ghost use Rattle.std.specs.Prelude.{◌≡◌, ℕ, false, ◌+◌, ◌-◌, ◌*◌, ◌^◌, ◌≤◌, ◌<◌, ◌∷◌, ◌++◌, [], length, take, drop, replicate};
+ghost use Rattle.std.proofs.Common.{lit≤};
 ghost use Rattle.layout.specs.Layout.{awaiting_size};
-ghost use Rattle.model.specs.Slots.{slot_words, slot_eqb, mem};
+ghost use Rattle.model.specs.Slots.{slot_words, mem};
 ghost use Rattle.model.specs.Reads as reads;
-ghost use Rattle.model.specs.Entries.{slot_of, members_of, flags_known};
-ghost use Rattle.words.specs.Parts.{part, placed};
+ghost use Rattle.model.specs.Entries.{members_of, flags_known};
+ghost use Rattle.words.specs.Parts.{part};
 ghost use Rattle.image.specs.Image.{bytes_of};
+ghost use Rattle.image.specs.WellFormed.{all_waiters};
 ghost use Rattle.image.specs.Area.{pending_of, with_pending};
 ghost use Rattle.awaiting.specs.Awaiting.{entry_at, place_in, Rising, Ready, Holds, Lists, entry_slots};
 
 use model::delta_snapshot::Slot;
 use records::Found;
 
-// The place of a slot among the n awaiting slots that s begins with.
-pub fn find(s: &[u8], n: usize, slot: Slot) -> Found
-    requires { Rising n s.now }
-    ensures { result ≡ place_in slot (pending_of n s.now) }
-{
-    records::search(s, layout::AWAITING_SIZE, n, slot)
+// An entry of a lent list. It begins with the 52 bytes of a slot.
+pub trait ListEntry {
+    const WIDTH: usize;
+
+    ghost WIDTH: { ℕ };
+
+    ghost wide: { 52 ≤ WIDTH };
 }
 
-// The waiters of awaiting slot i.
-fn waiters_at(s: &[u8], i: usize) -> u64
-    requires { (i + 1) * awaiting_size ≤ length s.now }
-    ensures { result ≡ (entry_at i s.now).waiters }
-{
-    words::read_u64(s, i * layout::AWAITING_SIZE + layout::WAITERS_OFFSET)
+// A slot alone.
+pub struct SlotEntry;
+
+impl ListEntry for SlotEntry {
+    const WIDTH: usize = 52;
+
+    ghost WIDTH = { 52 };
+
+    ghost wide = { lit≤ tt };
 }
 
-// Whether awaiting slot i is taken.
-fn taken_at(s: &[u8], i: usize) -> bool
-    requires { (i + 1) * awaiting_size ≤ length s.now }
-    ensures { result ≡ (entry_at i s.now).taken }
-{
-    words::read_u64(s, i * layout::AWAITING_SIZE + layout::TAKEN_OFFSET) != 0
+// A member of an answer: a slot, a flag byte and a value.
+pub struct MemberEntry;
+
+impl ListEntry for MemberEntry {
+    const WIDTH: usize = 85;
+
+    ghost WIDTH = { 85 };
+
+    ghost wide = { lit≤ tt };
 }
 
-// The waiters of a slot: 0 if it awaits nothing.
-pub fn waiters(s: &[u8], n: usize, slot: Slot) -> u64
-    requires { Rising n s.now }
-    ensures { result ≡ reads.waiters_of slot (pending_of n s.now) }
-{
-    let Ok(i) = find(s, n, slot) else {
-        return 0;
-    };
-    waiters_at(s, i)
+// The awaiting slots that some bytes begin with.
+#[derive(Clone, Copy)]
+pub struct Awaiting<'a> {
+    pub bytes: &'a [u8],
+    pub count: usize,
+    pub ghost rising: { Rising count bytes.now },
 }
 
-// Whether a slot awaits an answer and is taken.
-pub fn is_taken(s: &[u8], n: usize, slot: Slot) -> bool
-    requires { Rising n s.now }
-    ensures { result ≡ reads.is_taken slot (pending_of n s.now) }
-{
-    let Ok(i) = find(s, n, slot) else {
-        return false;
-    };
-    taken_at(s, i)
-}
+impl<'a> Awaiting<'a> {
+    ghost use Rattle.awaiting.specs.Lent.{all_of};
 
-// Whether a slot awaits an answer.
-pub fn is_awaiting(s: &[u8], n: usize, slot: Slot) -> bool
-    requires { Rising n s.now }
-    ensures { result ≡ reads.is_awaiting slot (pending_of n s.now) }
-{
-    match find(s, n, slot) {
-        Ok(_) => true,
-        Err(_) => false,
+    // The place of a slot among them.
+    pub fn find(self, slot: Slot) -> Found
+        ensures { result ≡ place_in slot (all_of self.entry) }
+    {
+        records::search(self.bytes, layout::AWAITING_SIZE, self.count, slot)
+    }
+
+    // The waiters of awaiting slot i.
+    fn waiters_at(self, i: usize) -> u64
+        requires { i < self.count }
+        ensures { result ≡ (entry_at i self.entry.bytes.now).waiters }
+    {
+        words::read_u64(
+            self.bytes,
+            i * layout::AWAITING_SIZE + layout::WAITERS_OFFSET,
+        )
+    }
+
+    // Whether awaiting slot i is taken.
+    fn taken_at(self, i: usize) -> bool
+        requires { i < self.count }
+        ensures { result ≡ (entry_at i self.entry.bytes.now).taken }
+    {
+        words::read_u64(self.bytes, i * layout::AWAITING_SIZE + layout::TAKEN_OFFSET) != 0
+    }
+
+    // The waiters of a slot: 0 if it awaits nothing.
+    pub fn waiters(self, slot: Slot) -> u64
+        ensures { result ≡ reads.waiters_of slot (all_of self.entry) }
+    {
+        let Ok(i) = self.find(slot) else {
+            return 0;
+        };
+        self.waiters_at(i)
+    }
+
+    // Whether a slot awaits an answer and is taken.
+    pub fn is_taken(self, slot: Slot) -> bool
+        ensures { result ≡ reads.is_taken slot (all_of self.entry) }
+    {
+        let Ok(i) = self.find(slot) else {
+            return false;
+        };
+        self.taken_at(i)
+    }
+
+    // Whether a slot awaits an answer.
+    pub fn is_awaiting(self, slot: Slot) -> bool
+        ensures { result ≡ reads.is_awaiting slot (all_of self.entry) }
+    {
+        match self.find(slot) {
+            Ok(_) => true,
+            Err(_) => false,
+        }
+    }
+
+    // The number of the queue's slots: those that are not taken.
+    pub fn queue_len(self) -> usize
+        ensures { result ≡ length (reads.queued (all_of self.entry)) }
+    {
+        (0..self.count).filter(|i| !self.taken_at(*i)).count()
+    }
+
+    // Lists the queue's slots, rising, to the output; their number.
+    fn list_queued(self, out: &mut [u8]) -> usize
+        requires { Ready self.count self.bytes.now × (52 * length (reads.queued (all_of self)) ≤ length out.old) }
+        ensures { Lists result out.new (all_of self.entry) out.old }
+    {
+        let mut k = 0;
+        for i in 0..self.count {
+            if !self.taken_at(i) {
+                let at = i * layout::AWAITING_SIZE + 4;
+                words::place(out, k * 52, &self.bytes[at..at + 52]);
+                k += 1;
+            }
+        }
+        k
+    }
+
+    // Whether every slot of a lent list is taken.
+    pub fn all_taken<E: ListEntry>(self, list: &[u8]) -> bool
+        ensures { result ≡ reads.all_taken (entry_slots E.WIDTH list.now) (all_of self.entry) }
+    {
+        list.chunks_exact(E::WIDTH)
+            .all(|entry| self.is_taken(entries::read_slot(entry, 0)))
+    }
+
+    // The waiters that an answer to the slots of a lent list wakes.
+    pub fn woken<E: ListEntry>(self, list: &[u8]) -> u64
+        requires waiters_fit { all_waiters (all_of self) < 2 ^ 32 }
+        requires distinct { reads.has_duplicate (entry_slots E.WIDTH list.now) ≡ false }
+        ensures { result ≡ reads.woken (entry_slots E.WIDTH list.now) (all_of self.entry) }
+    {
+        list.chunks_exact(E::WIDTH)
+            .map(|entry| self.waiters(entries::read_slot(entry, 0)))
+            .sum()
+    }
+
+    // The waiters that the members of a lent answer wake with a value.
+    pub fn woken_valued(self, list: &[u8]) -> u64
+        requires waiters_fit { all_waiters (all_of self) < 2 ^ 32 }
+        requires distinct { reads.has_duplicate (entry_slots 85 list.now) ≡ false }
+        ensures { result ≡ reads.woken (reads.valued_slots (members_of list.now)) (all_of self.entry) }
+    {
+        list.chunks_exact(85)
+            .filter(|member| member[52] != 0)
+            .map(|member| self.waiters(entries::read_slot(member, 0)))
+            .sum()
     }
 }
 
@@ -97,9 +195,10 @@ pub fn join(s: &mut [u8], n: usize, slot: Slot) -> usize
     requires { Ready n s.old × (length (reads.join slot (pending_of n s.old)) ≤ 64) }
     ensures { Holds result s.new n (reads.join slot (pending_of n s.old)) s.old }
 {
-    match find(s, n, slot) {
+    let awaiting = Awaiting { bytes: s, count: n };
+    match awaiting.find(slot) {
         Ok(i) => {
-            let w = waiters_at(s, i);
+            let w = awaiting.waiters_at(i);
             words::write_u64(s, i * layout::AWAITING_SIZE + layout::WAITERS_OFFSET, w + 1);
             n
         }
@@ -108,30 +207,6 @@ pub fn join(s: &mut [u8], n: usize, slot: Slot) -> usize
             n + 1
         }
     }
-}
-
-// The number of the queue's slots.
-pub fn queue_len(s: &[u8], n: usize) -> usize
-    requires { n * awaiting_size ≤ length s.now }
-    ensures { result ≡ length (reads.queued (pending_of n s.now)) }
-{
-    (0..n).filter(|i| !taken_at(s, *i)).count()
-}
-
-// Lists the queue's slots, rising, to the output; their number.
-fn list_queued(s: &[u8], n: usize, out: &mut [u8]) -> usize
-    requires { Ready n s.now × (52 * length (reads.queued (pending_of n s.now)) ≤ length out.old) }
-    ensures { Lists result out.new (pending_of n s.now) out.old }
-{
-    let mut k = 0;
-    for i in 0..n {
-        if !taken_at(s, i) {
-            let at = i * layout::AWAITING_SIZE + 4;
-            words::place(out, k * 52, &s[at..at + 52]);
-            k += 1;
-        }
-    }
-    k
 }
 
 // Marks all awaiting slots taken.
@@ -149,7 +224,7 @@ pub fn take_queued(s: &mut [u8], n: usize, out: &mut [u8]) -> usize
     requires { Ready n s.old × (52 * length (reads.queued (pending_of n s.old)) ≤ length out.old) }
     ensures { Lists result out.new (pending_of n s.old) out.old × (s.new ≡ with_pending n (reads.take_queued (pending_of n s.old)) s.old) }
 {
-    let k = list_queued(s, n, out);
+    let k = Awaiting { bytes: s, count: n }.list_queued(out);
     mark_taken(s, n);
     k
 }
@@ -173,37 +248,28 @@ pub fn remove(s: &mut [u8], n: usize, slot: Slot) -> usize
     requires { Ready n s.old }
     ensures { Holds result s.new n (reads.remove_pending slot (pending_of n s.old)) s.old }
 {
-    let Ok(i) = find(s, n, slot) else {
+    let Ok(i) = (Awaiting { bytes: s, count: n }).find(slot) else {
         return n;
     };
     remove_at(s, n, i);
     n - 1
 }
 
-// Whether two slots are equal.
-fn same(a: Slot, b: Slot) -> bool
-    ensures { result ≡ slot_eqb a b }
-{
-    a == b
-}
-
 // Whether a lent list names a slot.
-fn names<const STRIDE: usize>(list: &[u8], slot: Slot) -> bool
-    requires { 52 ≤ STRIDE }
-    ensures { result ≡ mem slot (entry_slots STRIDE list.now) }
+fn names<E: ListEntry>(list: &[u8], slot: Slot) -> bool
+    ensures { result ≡ mem slot (entry_slots E.WIDTH list.now) }
 {
-    list.chunks_exact(STRIDE)
-        .any(|entry| same(entries::read_slot(entry, 0), slot))
+    list.chunks_exact(E::WIDTH)
+        .any(|entry| entries::read_slot(entry, 0) == slot)
 }
 
 // Whether a lent list names a slot twice.
-pub fn has_duplicate<const STRIDE: usize>(list: &[u8]) -> bool
-    requires { 52 ≤ STRIDE }
-    ensures { result ≡ reads.has_duplicate (entry_slots STRIDE list.now) }
+pub fn has_duplicate<E: ListEntry>(list: &[u8]) -> bool
+    ensures { result ≡ reads.has_duplicate (entry_slots E.WIDTH list.now) }
 {
     let mut rest = list;
-    while let Some((entry, later)) = rest.split_at_checked(STRIDE) {
-        if names::<STRIDE>(later, entries::read_slot(entry, 0)) {
+    while let Some((entry, later)) = rest.split_at_checked(E::WIDTH) {
+        if names::<E>(later, entries::read_slot(entry, 0)) {
             return true;
         }
         rest = later;
@@ -218,36 +284,6 @@ pub fn flags_known(list: &[u8]) -> bool
     list.chunks_exact(85).all(|member| member[52] <= 1)
 }
 
-// Whether every slot of a lent list is taken.
-pub fn all_taken<const STRIDE: usize>(s: &[u8], n: usize, list: &[u8]) -> bool
-    requires { Rising n s.now × (52 ≤ STRIDE) }
-    ensures { result ≡ reads.all_taken (entry_slots STRIDE list.now) (pending_of n s.now) }
-{
-    list.chunks_exact(STRIDE)
-        .all(|entry| is_taken(s, n, entries::read_slot(entry, 0)))
-}
-
-// The waiters that an answer to the slots of a lent list wakes.
-pub fn woken<const STRIDE: usize>(s: &[u8], n: usize, list: &[u8]) -> u64
-    requires { Ready n s.now × (52 ≤ STRIDE) × (reads.has_duplicate (entry_slots STRIDE list.now) ≡ false) }
-    ensures { result ≡ reads.woken (entry_slots STRIDE list.now) (pending_of n s.now) }
-{
-    list.chunks_exact(STRIDE)
-        .map(|entry| waiters(s, n, entries::read_slot(entry, 0)))
-        .sum()
-}
-
-// The waiters that the members of a lent answer wake with a value.
-pub fn woken_valued(s: &[u8], n: usize, list: &[u8]) -> u64
-    requires { Ready n s.now × (reads.has_duplicate (entry_slots 85 list.now) ≡ false) }
-    ensures { result ≡ reads.woken (reads.valued_slots (members_of list.now)) (pending_of n s.now) }
-{
-    list.chunks_exact(85)
-        .filter(|member| member[52] != 0)
-        .map(|member| waiters(s, n, entries::read_slot(member, 0)))
-        .sum()
-}
-
 // The number of refused members of a lent answer.
 pub fn refused_members(list: &[u8]) -> usize
     ensures { result ≡ length (reads.refused_slots (members_of list.now)) }
@@ -258,12 +294,12 @@ pub fn refused_members(list: &[u8]) -> usize
 }
 
 // Takes the slots of a lent list out of the n awaiting ones; the number of awaiting slots then.
-pub fn remove_all<const STRIDE: usize>(s: &mut [u8], n: usize, list: &[u8]) -> usize
-    requires { Ready n s.old × (52 ≤ STRIDE) }
-    ensures { Holds result s.new n (reads.remove_all_pending (entry_slots STRIDE list.now) (pending_of n s.old)) s.old }
+pub fn remove_all<E: ListEntry>(s: &mut [u8], n: usize, list: &[u8]) -> usize
+    requires { Ready n s.old }
+    ensures { Holds result s.new n (reads.remove_all_pending (entry_slots E.WIDTH list.now) (pending_of n s.old)) s.old }
 {
     let mut k = n;
-    for entry in list.chunks_exact(STRIDE) {
+    for entry in list.chunks_exact(E::WIDTH) {
         k = remove(s, k, entries::read_slot(entry, 0));
     }
     k

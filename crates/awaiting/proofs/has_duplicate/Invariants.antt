@@ -6,7 +6,7 @@ use Rattle.awaiting.specs.Awaiting.{entry_slots}
 use Rattle.awaiting.proofs.has_duplicate.Given as goal
 
 abbrev pub invariant-loop-entry : goal.invariant-loop-entry
-invariant-loop-entry g l = has_duplicate (entry_slots g.row.STRIDE l.rest) ≡ has_duplicate (entry_slots g.row.STRIDE l.list)
+invariant-loop-entry g l = has_duplicate (entry_slots g.E.ListEntry.WIDTH l.rest) ≡ has_duplicate (entry_slots g.E.ListEntry.WIDTH l.list)
 
 abbrev pub decreases-loop-entry : goal.decreases-loop-entry
 decreases-loop-entry g l = length l.rest

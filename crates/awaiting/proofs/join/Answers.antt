@@ -1,5 +1,4 @@
 -- `awaiting::join` meets its contract.
-use Rattle.awaiting.proofs.Stored.{rising_of}
 use borrow.Author.Rules.{rules}
 use native.Mathlib.Omega.{arith}
 use mathlib.Core.Path.{◌≡◌, sym, ap, ◌∙◌}
@@ -10,9 +9,6 @@ use Rattle.awaiting.proofs.Places.{pending_at, FoundAt, AbsentAt, found, absent}
 use Rattle.awaiting.proofs.Awaits.{length_pending_of, pending_is}
 use Rattle.awaiting.proofs.Changes.{waiters_le, absent_length, joined_found, joined_absent}
 use Rattle.awaiting.proofs.join.Goals as goal
-
-pub find-requires : goal.find-requires
-find-requires c = rising_of c.args.n c.args.s.now c.requires.0
 
 pub waiters_at-w-requires : goal.waiters_at-w-requires
 waiters_at-w-requires c =

@@ -1,5 +1,4 @@
 -- `awaiting::remove` meets its contract.
-use Rattle.awaiting.proofs.Stored.{rising_of}
 use borrow.Author.Rules.{rules}
 use native.Mathlib.Omega.{arith}
 use mathlib.Core.Path.{sym, ◌∙◌}
@@ -8,9 +7,6 @@ use Rattle.awaiting.proofs.Places.{FoundAt, found, not_among}
 use Rattle.awaiting.proofs.Awaits.{length_pending_of}
 use Rattle.awaiting.proofs.Changes.{removed_found, removed_absent}
 use Rattle.awaiting.proofs.remove.Goals as goal
-
-pub find-requires : goal.find-requires
-find-requires c = rising_of c.args.n c.args.s.now c.requires
 
 pub returns-in_default : goal.returns-in_default
 returns-in_default c = removed_absent c.args.n c.args.slot c.args.s.now c.requires (not_among (pending_of c.args.n c.args.s.now) c.args.slot _ c.requires.ok (sym c.find.ensures ∙ c.in_default.is))

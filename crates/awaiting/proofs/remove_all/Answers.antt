@@ -21,11 +21,11 @@ loop-entry-preserved g c =
       omega (arith, r.fewer, i.1),
       r.ready,
       r.from_first,
-      ap (remove_all_pending (entry_slots g.row.STRIDE (chunks_exact_rest c.next.new.self))) r.reads_as ∙ sym (remove_more _ _ _ _ _ _ c.requires.1 e.1.0 (e.1.1 ∙ i.0) c.read_slot.ensures) ∙ i.4,
+      ap (remove_all_pending (entry_slots g.E.ListEntry.WIDTH (chunks_exact_rest c.next.new.self))) r.reads_as ∙ sym (remove_more _ _ _ _ _ _ g.E.ListEntry.wide e.1.0 (e.1.1 ∙ i.0) c.read_slot.ensures) ∙ i.4,
     )
 
 pub returns : goal.returns
 returns g c =
     let i = c.loop-entry.invariant in
-    let e = sym (remove_none g.row.STRIDE (chunks_exact_rest c.loop-entry.entry-iterator) (omega (arith, c.in-None.ensures.steps.1.0, i.0)) (pending_of c.loop-entry.k c.loop-entry.s)) ∙ i.4 in
+    let e = sym (remove_none g.E.ListEntry.WIDTH (chunks_exact_rest c.loop-entry.entry-iterator) (omega (arith, c.in-None.ensures.steps.1.0, i.0)) (pending_of c.loop-entry.k c.loop-entry.s)) ∙ i.4 in
     record { count_is = sym (length_pending_of c.loop-entry.k c.loop-entry.s) ∙ ap length e; bytes_are = sym i.3 ∙ ap (λ (y : List Pending). with_pending c.args.n y c.args.s.now) e }

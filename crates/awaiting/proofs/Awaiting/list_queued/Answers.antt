@@ -1,13 +1,13 @@
--- `awaiting::list_queued` meets its contract.
+-- `awaiting::Awaiting::list_queued` meets its contract.
 use native.Mathlib.Omega.{arith}
 use mathlib.Core.Path.{sym, ◌∙◌}
 use lib.ListN.{length-take, length-drop}
 use Rattle.awaiting.proofs.Entries.{listing_start, listing_end, listing_room, listing_passed, listing_put}
-use Rattle.awaiting.proofs.list_queued.Goals.{then-not-taken_at, else-not-taken_at}
-use Rattle.awaiting.proofs.list_queued.Goals as goal
+use Rattle.awaiting.proofs.Awaiting.list_queued.Goals.{then-not-taken_at, else-not-taken_at}
+use Rattle.awaiting.proofs.Awaiting.list_queued.Goals as goal
 
 pub loop-i-init : goal.loop-i-init
-loop-i-init c = listing_start c.args.n c.args.s.now c.args.out.now
+loop-i-init c = listing_start c.args.self.count c.args.self.bytes.now c.args.out.now
 
 pub overflow_mul-k : goal.overflow_mul-k
 overflow_mul-k c = omega (arith, listing_room c.loop-i.invariant c.loop-i-test.true (sym c.taken_at.ensures ∙ c.if-not-taken_at.true) (omega (arith, c.requires.1)))
