@@ -1,7 +1,7 @@
 -- The place of a slot among awaiting slots: what the search shows, and what a caller learns of it.
-use Rattle.std.specs.Prelude.{Err, Ok}
+use Rattle.std.specs.Prelude.{is_ok, Err, Ok}
 use Prim.Native.Nat.{ℕ, zero, suc, ◌+◌, ◌≤◌, ◌<◌}
-use mathlib.Core.Path.{◌≡◌, refl, ap, ◌∙◌}
+use mathlib.Core.Path.{◌≡◌, refl, sym, ap, ◌∙◌}
 use mathlib.Core.Bool.{Bool, true, false}
 use mathlib.Core.List.{List, [], ◌∷◌, ◌++◌}
 use native.Mathlib.Omega.{arith}
@@ -198,3 +198,8 @@ not_among_from (w ∷ q) b t k h e =
 
 pub not_among : (q : List Pending) (t : Slot) (i : ℕ) → pending_ok q ≡ true → place_in t q ≡ Err i → NotAmong t q
 not_among q t i h e = not_among_from q 0 t i h e
+
+-- Whether the place was found says whether the slot awaits an answer.
+pub place_awaits : (q : List Pending) (t : Slot) (f : Found) → pending_ok q ≡ true → f ≡ place_in t q → is_ok f ≡ is_awaiting t q
+place_awaits q t (Ok i) h e = sym (found q t i (sym e)).awaits
+place_awaits q t (Err i) h e = sym (not_among q t i h (sym e)).not_awaiting

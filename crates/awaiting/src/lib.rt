@@ -108,10 +108,7 @@ impl<'a> Awaiting<'a> {
     pub fn is_awaiting(self, slot: Slot) -> bool
         ensures { result ≡ reads.is_awaiting slot (all_of self.entry) }
     {
-        match self.find(slot) {
-            Ok(_) => true,
-            Err(_) => false,
-        }
+        self.find(slot).is_ok()
     }
 
     // The number of the queue's slots: those that are not taken.
