@@ -1,8 +1,8 @@
 -- The records that the values of an answer to distinct slots add to a layer.
-use Rattle.std.specs.Prelude.{None, Option, Some, is_some, Err, Ok}
+use Rattle.std.specs.Prelude.{None, Option, Some, is_some, is_err, Err, Ok}
 use Prim.Native.Nat.{ℕ, ◌+◌, ◌≤◌}
 use mathlib.Core.Path.{◌≡◌, refl, sym, ap, ◌∙◌}
-use mathlib.Core.Bool.{Bool, true, false, cond}
+use mathlib.Core.Bool.{Bool, true, false, not, cond}
 use mathlib.Core.List.{List, [], ◌∷◌}
 use native.Mathlib.Omega.{arith}
 use lib.ListN.{length}
@@ -72,8 +72,6 @@ grows n [] l = omega arith
 grows n (m ∷ ms) l = omega (arith, grows n ms (settle_outcome n m.slot m.outcome l), grows_one n m.slot m.outcome l)
 
 -- What the place found says.
-pub is_there : (s : Slot) (l : Layer) (f : Found) (i : ℕ) → f ≡ place_in s l → f ≡ Ok i → is_some (find s l) ≡ true
-is_there s l f i p q = ap is_some (found_content l s i (sym p ∙ q))
-
-pub is_absent : (s : Slot) (l : Layer) (f : Found) (i : ℕ) → rising l ≡ true → f ≡ place_in s l → f ≡ Err i → is_some (find s l) ≡ false
-is_absent s l f i r p q = ap is_some (absent_none l s i r (sym p ∙ q))
+pub none_found : (s : Slot) (l : Layer) (f : Found) → rising l ≡ true → f ≡ place_in s l → is_err f ≡ not (is_some (find s l))
+none_found s l (Ok i) r e = sym (ap (λ (o : Option Content). not (is_some o)) (found_content l s i (sym e)))
+none_found s l (Err i) r e = sym (ap (λ (o : Option Content). not (is_some o)) (absent_none l s i r (sym e)))

@@ -13,11 +13,7 @@ fn is_new(s: &[u8], member: &[u8]) -> bool
     requires { HasGeneration s.now × (length member.now ≡ 85) }
     ensures { result ≡ adds_one (member_of member.now) (generation_of s.now).top }
 {
-    member[52] != 0
-        && match layers::top_place(s, entries::read_slot(member, 0)) {
-            Ok(_) => false,
-            Err(_) => true,
-        }
+    member[52] != 0 && layers::top_place(s, entries::read_slot(member, 0)).is_err()
 }
 
 // The records that the members of a lent answer to distinct slots add.

@@ -1,19 +1,22 @@
 // The calls read, take, answer and answer_failed on bytes that are known to be a store.
 #![tactic(auto, using(layers::proofs::Header::header_room))]
 
-ghost use Rattle.std.specs.Prelude.{◌≡◌, true, false, not, ◌&&◌, leb, ◌∷◌, ◌+◌, ◌*◌, ◌≤◌, length, None, Some, is_some};
+ghost use Rattle.std.specs.Prelude.{◌≡◌, true, false, not, ◌&&◌, leb, ◌∷◌, ◌+◌, ◌*◌, ◌^◌, ◌≤◌, ◌<◌, length, None, Some, is_some};
 ghost use Rattle.model.specs.Layers.{record_count};
 ghost use Rattle.model.specs.Reads as reads;
 ghost use Rattle.model.specs.Store as calls;
 ghost use Rattle.model.specs.Store.{on_store, at_anchor, on_slot, resolved};
 ghost use Rattle.model.specs.Entries.{slots_of, members_of};
 ghost use Rattle.image.specs.Image.{decode, overlay, bytes_step};
+ghost use Rattle.image.specs.WellFormed.{all_waiters};
 ghost use Rattle.image.specs.Lent.{store_of, generation_of, IsStore, Installed as HasGeneration};
 ghost use Rattle.records.specs.Records.{place_in};
 ghost use Rattle.awaiting.specs.Awaiting.{Lists, entry_slots};
+ghost use Rattle.awaiting.specs.Lent.{all_of};
 ghost use Rattle.replies.specs.Replies.{read_reply, answer_reply, alone, with_output, Stepped, Took};
 ghost use Rattle.unchecked_reads.specs.Inner.{awaited, Open, answer_refusal};
 
+use awaiting::{Awaiting, ListEntry, MemberEntry, SlotEntry};
 use model::delta_snapshot::Slot;
 use model::refusal::Refusal;
 use model::storage_memo::{ReadAnchor, U256};
@@ -28,22 +31,16 @@ fn awaiting_count(s: &[u8]) -> usize
     words::read_u64(s, layout::AWAITING_COUNT_OFFSET) as usize
 }
 
-// The number of the queue's slots.
-fn queue_len(s: &[u8]) -> usize
+// The awaiting slots.
+fn awaiting_in<'a>(s: &'a [u8]) -> Awaiting<'a>
     requires { HasGeneration s.now }
-    ensures { result ≡ length (reads.queued (generation_of s.now).pending) }
+    ensures slots_are { all_of result ≡ (generation_of s.now).pending }
+    ensures waiters_fit { all_waiters (all_of result) < 2 ^ 32 }
 {
-    let n = awaiting_count(s);
-    awaiting::queue_len(&s[layout::AWAITING_OFFSET..], n)
-}
-
-// Whether a slot awaits an answer.
-fn is_awaiting(s: &[u8], slot: Slot) -> bool
-    requires { HasGeneration s.now }
-    ensures { result ≡ reads.is_awaiting slot (generation_of s.now).pending }
-{
-    let n = awaiting_count(s);
-    awaiting::is_awaiting(&s[layout::AWAITING_OFFSET..], n, slot)
+    Awaiting {
+        bytes: &s[layout::AWAITING_OFFSET..],
+        count: awaiting_count(s),
+    }
 }
 
 // Whether a slot would be the 65th awaiting an answer.
@@ -51,46 +48,7 @@ fn queue_full(s: &[u8], slot: Slot) -> bool
     requires { HasGeneration s.now }
     ensures { result ≡ (not (reads.is_awaiting slot (generation_of s.now).pending) && leb 64 (length (generation_of s.now).pending)) }
 {
-    if is_awaiting(s, slot) {
-        return false;
-    }
-    64 <= awaiting_count(s)
-}
-
-// The waiters of a slot: 0 if it awaits nothing.
-fn waiters(s: &[u8], slot: Slot) -> u64
-    requires { HasGeneration s.now }
-    ensures { result ≡ reads.waiters_of slot (generation_of s.now).pending }
-{
-    let n = awaiting_count(s);
-    awaiting::waiters(&s[layout::AWAITING_OFFSET..], n, slot)
-}
-
-// Whether every slot of a lent list is taken.
-fn all_taken<const STRIDE: usize>(s: &[u8], list: &[u8]) -> bool
-    requires { HasGeneration s.now × (52 ≤ STRIDE) }
-    ensures { result ≡ reads.all_taken (entry_slots STRIDE list.now) (generation_of s.now).pending }
-{
-    let n = awaiting_count(s);
-    awaiting::all_taken::<STRIDE>(&s[layout::AWAITING_OFFSET..], n, list)
-}
-
-// The waiters that an answer to the slots of a lent list wakes.
-fn woken<const STRIDE: usize>(s: &[u8], list: &[u8]) -> u64
-    requires { HasGeneration s.now × (52 ≤ STRIDE) × (reads.has_duplicate (entry_slots STRIDE list.now) ≡ false) }
-    ensures { result ≡ reads.woken (entry_slots STRIDE list.now) (generation_of s.now).pending }
-{
-    let n = awaiting_count(s);
-    awaiting::woken::<STRIDE>(&s[layout::AWAITING_OFFSET..], n, list)
-}
-
-// The waiters that the members of a lent answer wake with a value.
-fn woken_valued(s: &[u8], list: &[u8]) -> u64
-    requires { HasGeneration s.now × (reads.has_duplicate (entry_slots 85 list.now) ≡ false) }
-    ensures { result ≡ reads.woken (reads.valued_slots (members_of list.now)) (generation_of s.now).pending }
-{
-    let n = awaiting_count(s);
-    awaiting::woken_valued(&s[layout::AWAITING_OFFSET..], n, list)
+    !awaiting_in(s).is_awaiting(slot) && 64 <= awaiting_count(s)
 }
 
 // An unserved read's slot joins the queue or gains a waiter.
@@ -104,12 +62,12 @@ fn join(s: &mut [u8], slot: Slot)
 }
 
 // Takes the slots of a lent list out of the awaiting ones.
-fn remove_all<const STRIDE: usize>(s: &mut [u8], list: &[u8])
-    requires { HasGeneration s.old × (52 ≤ STRIDE) }
-    ensures { s.new ≡ overlay (awaited (store_of s.old).config (generation_of s.old) (reads.remove_all_pending (entry_slots STRIDE list.now) (generation_of s.old).pending)) s.old }
+fn remove_all<E: ListEntry>(s: &mut [u8], list: &[u8])
+    requires { HasGeneration s.old }
+    ensures { s.new ≡ overlay (awaited (store_of s.old).config (generation_of s.old) (reads.remove_all_pending (entry_slots E.WIDTH list.now) (generation_of s.old).pending)) s.old }
 {
     let n = awaiting_count(s);
-    let count = awaiting::remove_all::<STRIDE>(&mut s[layout::AWAITING_OFFSET..], n, list);
+    let count = awaiting::remove_all::<E>(&mut s[layout::AWAITING_OFFSET..], n, list);
     words::write_u64(s, layout::AWAITING_COUNT_OFFSET, count as u64);
 }
 
@@ -128,7 +86,7 @@ pub fn take(s: &mut [u8], anchor: ReadAnchor, out: &mut [u8]) -> TakeReply
     ensures { Took result s.new out.new out.old (bytes_step s.old (with_output (on_store (at_anchor anchor calls.take)) out.old)) }
 {
     header::guard(s, anchor)?;
-    if out.len() / 52 < queue_len(s) {
+    if out.len() / 52 < awaiting_in(s).queue_len() {
         return Err(Refusal::OutputTooShort);
     }
     Ok(take_queued(s, out) as u64)
@@ -155,8 +113,9 @@ fn wait(s: &mut [u8], slot: Slot) -> ReadReply
     if queue_full(s, slot) {
         return Err(Refusal::QueueFull);
     }
-    let joined = is_awaiting(s, slot);
-    let w = waiters(s, slot);
+    let awaiting = awaiting_in(s);
+    let joined = awaiting.is_awaiting(slot);
+    let w = awaiting.waiters(slot);
     join(s, slot);
     totals::record_read(s, false, joined);
     Ok(ReadOutcome::Waiting(w + 1))
@@ -179,15 +138,11 @@ pub fn read(s: &mut [u8], anchor: ReadAnchor, slot: Slot) -> ReadReply
 }
 
 // The refusal of an answer to the slots of a lent list at an anchor.
-fn guard_answer<const STRIDE: usize>(
-    s: &[u8],
-    anchor: ReadAnchor,
-    list: &[u8],
-) -> Result<(), Refusal>
-    requires { IsStore s.now × (52 ≤ STRIDE) }
-    ensures { result ≡ answer_refusal (entry_slots STRIDE list.now) (store_of s.now).installed anchor }
+fn guard_answer<E: ListEntry>(s: &[u8], anchor: ReadAnchor, list: &[u8]) -> Result<(), Refusal>
+    requires { IsStore s.now }
+    ensures { result ≡ answer_refusal (entry_slots E.WIDTH list.now) (store_of s.now).installed anchor }
 {
-    if awaiting::has_duplicate::<STRIDE>(list) {
+    if awaiting::has_duplicate::<E>(list) {
         return Err(Refusal::NamesTwice);
     }
     header::guard(s, anchor)
@@ -198,13 +153,14 @@ pub fn answer_failed(s: &mut [u8], anchor: ReadAnchor, slots: &[u8]) -> AnswerRe
     requires { is_some (decode s.old) ≡ true }
     ensures { Stepped (answer_reply result) s.new (bytes_step s.old (alone (on_store (at_anchor anchor (calls.answer_failed (slots_of slots.now)))))) }
 {
-    guard_answer::<52>(s, anchor, slots)?;
-    if !all_taken::<52>(s, slots) {
+    guard_answer::<SlotEntry>(s, anchor, slots)?;
+    let awaiting = awaiting_in(s);
+    if !awaiting.all_taken::<SlotEntry>(slots) {
         return Err(Refusal::NotTaken);
     }
     let members = (slots.len() / 52) as u64;
-    let w = woken::<52>(s, slots);
-    remove_all::<52>(s, slots);
+    let w = awaiting.woken::<SlotEntry>(slots);
+    remove_all::<SlotEntry>(s, slots);
     totals::record_answer(s, members, 0, 0, w);
     Ok(Answered {
         members,
@@ -230,10 +186,11 @@ fn finish(s: &mut [u8], list: &[u8]) -> AnswerReply
 {
     let members = (list.len() / 85) as u64;
     let errors = awaiting::refused_members(list) as u64;
-    let w = woken::<85>(s, list);
-    let valued = woken_valued(s, list);
+    let awaiting = awaiting_in(s);
+    let w = awaiting.woken::<MemberEntry>(list);
+    let valued = awaiting.woken_valued(list);
     settling::settle_members(s, list);
-    remove_all::<85>(s, list);
+    remove_all::<MemberEntry>(s, list);
     totals::record_answer(s, members, errors, valued, w - valued);
     Ok(Answered {
         members,
@@ -247,8 +204,8 @@ pub fn answer(s: &mut [u8], anchor: ReadAnchor, members: &[u8]) -> AnswerReply
     requires { is_some (decode s.old) ≡ true }
     ensures { Stepped (answer_reply result) s.new (bytes_step s.old (alone (on_store (at_anchor anchor (calls.answer (members_of members.now)))))) }
 {
-    guard_answer::<85>(s, anchor, members)?;
-    if !all_taken::<85>(s, members) {
+    guard_answer::<MemberEntry>(s, anchor, members)?;
+    if !awaiting_in(s).all_taken::<MemberEntry>(members) {
         return Err(Refusal::NotTaken);
     }
     if !has_space(s, members) {

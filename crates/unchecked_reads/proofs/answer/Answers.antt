@@ -3,7 +3,6 @@ use Rattle.std.specs.Prelude.{Ok}
 use Rattle.std.proofs.lemmas.Result.{err_from_is_err_and}
 use mathlib.Core.Path.{◌≡◌, sym, ◌∙◌}
 use mathlib.Core.Bool.{true, false}
-use native.Mathlib.Omega.{arith}
 use borrow.Author.Tests.{leb-true, leb-false}
 use Rattle.model.specs.Reads.{all_taken, has_duplicate}
 use Rattle.model.specs.Entries.{members_of}
@@ -19,7 +18,7 @@ use Rattle.unchecked_reads.proofs.Counts.{distinct, taken_members}
 use Rattle.unchecked_reads.proofs.answer.Goals as goal
 
 pub guard_answer-requires : goal.guard_answer-requires
-guard_answer-requires c = (decoded_some _ c.requires, omega arith)
+guard_answer-requires c = decoded_some _ c.requires
 
 pub returns-in_err-guard_answer : goal.returns-in_err-guard_answer
 returns-in_err-guard_answer c =
@@ -28,13 +27,13 @@ returns-in_err-guard_answer c =
     rw (p.1, p.2) (stepped (by_answer_guard a.s.now a.anchor (answer (members_of a.members.now)) 0 (entry_slots 85 a.members.now) (entry_slots_members a.members.now)
     (decoded_some _ c.requires) _ (sym c.guard_answer.ensures ∙ c.in_err-guard_answer.was)))
 
-pub all_taken-requires : goal.all_taken-requires
-all_taken-requires c =
+pub awaiting_in-requires : goal.awaiting_in-requires
+awaiting_in-requires c =
     let passed : let a = c.args in
     (has_duplicate (entry_slots 85 a.members.now) ≡ false) × (anchored_refusal (store_of a.s.now).installed a.anchor ≡ Ok tt) = let a = c.args in
     past_answer_guard (entry_slots 85 a.members.now) (store_of a.s.now).installed a.anchor _ (sym c.guard_answer.ensures ∙ c.in_ok-guard_answer.was) in
     let here : let a = c.args in Here a.s.now a.anchor = past_guard _ _ (decoded_some _ c.requires) passed.1 in
-    (here.has, omega arith)
+    here.has
 
 pub returns-then-not-all_taken : goal.returns-then-not-all_taken
 returns-then-not-all_taken c =
@@ -46,7 +45,7 @@ returns-then-not-all_taken c =
     let a = c.args in
     let h = here.has in
     stepped (answer_26 a.s.now a.anchor here (members_of a.members.now) (distinct a.s.now h a.members.now once)
-    (taken_members a.s.now h a.members.now false (sym c.all_taken.ensures ∙ c.if-not-all_taken.true)))
+    (taken_members a.s.now h a.members.now false (sym (rw c.awaiting_in.ensures.slots_are at c.all_taken.ensures) ∙ c.if-not-all_taken.true)))
 
 pub has_space-requires : goal.has_space-requires
 has_space-requires c =
@@ -64,7 +63,7 @@ returns-then-not-has_space c =
     past_answer_guard (entry_slots 85 a.members.now) (store_of a.s.now).installed a.anchor _ (sym c.guard_answer.ensures ∙ c.in_ok-guard_answer.was) in
     let here : let a = c.args in Here a.s.now a.anchor = past_guard _ _ (decoded_some _ c.requires) passed.1 in
     let once : has_duplicate (entry_slots 85 c.args.members.now) ≡ false = passed.0 in
-    let taken : let a = c.args in all_taken (entry_slots 85 a.members.now) (generation_of a.s.now).pending ≡ true = sym c.all_taken.ensures ∙ c.if-not-all_taken.false in
+    let taken : let a = c.args in all_taken (entry_slots 85 a.members.now) (generation_of a.s.now).pending ≡ true = sym (rw c.awaiting_in.ensures.slots_are at c.all_taken.ensures) ∙ c.if-not-all_taken.false in
     let a = c.args in
     let h = here.has in
     stepped (answer_23 a.s.now a.anchor here (members_of a.members.now) (distinct a.s.now h a.members.now once)
@@ -77,7 +76,7 @@ finish-requires c =
     past_answer_guard (entry_slots 85 a.members.now) (store_of a.s.now).installed a.anchor _ (sym c.guard_answer.ensures ∙ c.in_ok-guard_answer.was) in
     let here : let a = c.args in Here a.s.now a.anchor = past_guard _ _ (decoded_some _ c.requires) passed.1 in
     let once : has_duplicate (entry_slots 85 c.args.members.now) ≡ false = passed.0 in
-    let taken : let a = c.args in all_taken (entry_slots 85 a.members.now) (generation_of a.s.now).pending ≡ true = sym c.all_taken.ensures ∙ c.if-not-all_taken.false in
+    let taken : let a = c.args in all_taken (entry_slots 85 a.members.now) (generation_of a.s.now).pending ≡ true = sym (rw c.awaiting_in.ensures.slots_are at c.all_taken.ensures) ∙ c.if-not-all_taken.false in
     (here.has, once, taken, leb-true _ _ (sym c.has_space.ensures ∙ c.if-not-has_space.false))
 
 pub returns : goal.returns

@@ -19,7 +19,7 @@ use Rattle.unchecked_reads.proofs.Counts.{stepped_as, distinct, taken_members, v
 use Rattle.unchecked_reads.proofs.finish.Goals as goal
 
 pub overflow_sub-w : goal.overflow_sub-w
-overflow_sub-w c = valued_few c.args.s.now c.requires.0 c.args.list.now c.woken-w.result c.woken_valued-valued.result c.refused_members-errors.result c.woken-w.ensures c.woken_valued-valued.ensures c.refused_members-errors.ensures
+overflow_sub-w c = valued_few c.args.s.now c.requires.0 c.args.list.now c.woken-w.result c.woken_valued-valued.result c.refused_members-errors.result (rw c.awaiting_in-awaiting.ensures.slots_are at c.woken-w.ensures) (rw c.awaiting_in-awaiting.ensures.slots_are at c.woken_valued-valued.ensures) c.refused_members-errors.ensures
 
 pub record_answer-requires : goal.record_answer-requires
 record_answer-requires c =
@@ -39,7 +39,7 @@ record_answer-requires c =
     let x = settle_members g.anchor.number (members_of l) g.top in
     let q = remove_all_pending (member_slots (members_of l)) g.pending in (
       counts_in s h x q (removed_few s h (member_slots (members_of l))) c.requires.3 _ removed,
-      answer_answerable s h l c.woken-w.result c.woken_valued-valued.result c.refused_members-errors.result c.woken-w.ensures c.woken_valued-valued.ensures c.refused_members-errors.ensures c.requires.1 c.requires.2 _
+      answer_answerable s h l c.woken-w.result c.woken_valued-valued.result c.refused_members-errors.result (rw c.awaiting_in-awaiting.ensures.slots_are at c.woken-w.ensures) (rw c.awaiting_in-awaiting.ensures.slots_are at c.woken_valued-valued.ensures) c.refused_members-errors.ensures c.requires.1 c.requires.2 _
           (counts_of s h x q (removed_few s h (member_slots (members_of l))) c.requires.3 _ removed),
     )
 
@@ -61,6 +61,6 @@ returns c =
     let x = settle_members g.anchor.number (members_of l) g.top in
     let q = remove_all_pending (member_slots (members_of l)) g.pending in
     stepped_as (said_answer s g.anchor (here_own s h) (members_of l) (distinct s h l c.requires.1) (taken_members s h l true c.requires.2) c.requires.3)
-    (answer_says s h l c.woken-w.result c.woken_valued-valued.result c.refused_members-errors.result c.woken-w.ensures c.woken_valued-valued.ensures c.refused_members-errors.ensures)
+    (answer_says s h l c.woken-w.result c.woken_valued-valued.result c.refused_members-errors.result (rw c.awaiting_in-awaiting.ensures.slots_are at c.woken-w.ensures) (rw c.awaiting_in-awaiting.ensures.slots_are at c.woken_valued-valued.ensures) c.refused_members-errors.ensures)
     (counted s h x q (removed_few s h (member_slots (members_of l))) c.requires.3 _ removed (count_answer (length l / 85) c.refused_members-errors.result c.woken_valued-valued.result (c.woken-w.result - c.woken_valued-valued.result)) c.record_answer.ensures
-    ∙ ap (λ (y : ReadTotals). overlay (reading (store_of s).config g x q y) s) (answer_totals s h l c.woken-w.result c.woken_valued-valued.result c.refused_members-errors.result c.woken-w.ensures c.woken_valued-valued.ensures c.refused_members-errors.ensures))
+    ∙ ap (λ (y : ReadTotals). overlay (reading (store_of s).config g x q y) s) (answer_totals s h l c.woken-w.result c.woken_valued-valued.result c.refused_members-errors.result (rw c.awaiting_in-awaiting.ensures.slots_are at c.woken-w.ensures) (rw c.awaiting_in-awaiting.ensures.slots_are at c.woken_valued-valued.ensures) c.refused_members-errors.ensures))

@@ -22,8 +22,8 @@ returns-in_err-guard c =
     let p = err_from_is_err_and c.from_residual.result c.from_residual.ensures.1 in
     rw (p.1, p.2) (took_none (by_guard a.s.now a.anchor take (length a.out.now / 52) none_twice (decoded_some _ c.requires) _ (sym c.guard.ensures ∙ c.in_err-guard.was)))
 
-pub queue_len-requires : goal.queue_len-requires
-queue_len-requires c =
+pub awaiting_in-requires : goal.awaiting_in-requires
+awaiting_in-requires c =
     let here : let a = c.args in Here a.s.now a.anchor = past_guard _ _ (decoded_some _ c.requires) (sym c.guard.ensures ∙ c.in_ok-guard.was) in
     here.has
 
@@ -31,18 +31,18 @@ pub returns-then-out-queue_len : goal.returns-then-out-queue_len
 returns-then-out-queue_len c =
     let here : let a = c.args in Here a.s.now a.anchor = past_guard _ _ (decoded_some _ c.requires) (sym c.guard.ensures ∙ c.in_ok-guard.was) in
     let a = c.args in
-    let z : length a.out.now / 52 < length (queued (generation_of a.s.now).pending) = omega (arith, c.queue_len.ensures, c.if-out-queue_len.true) in
+    let z : length a.out.now / 52 < length (queued (generation_of a.s.now).pending) = omega (arith, rw c.awaiting_in.ensures.slots_are at c.queue_len.ensures, c.if-out-queue_len.true) in
     took_none (said_27 a.s.now a.anchor here (length a.out.now / 52) z)
 
 pub take_queued-requires : goal.take_queued-requires
 take_queued-requires c =
     let here : let a = c.args in Here a.s.now a.anchor = past_guard _ _ (decoded_some _ c.requires) (sym c.guard.ensures ∙ c.in_ok-guard.was) in
-    let fits : let a = c.args in length (queued (generation_of a.s.now).pending) ≤ length a.out.now / 52 = omega (arith, c.queue_len.ensures, c.if-out-queue_len.false) in
+    let fits : let a = c.args in length (queued (generation_of a.s.now).pending) ≤ length a.out.now / 52 = omega (arith, rw c.awaiting_in.ensures.slots_are at c.queue_len.ensures, c.if-out-queue_len.false) in
     (here.has, omega (arith, fits))
 
 pub returns : goal.returns
 returns c =
     let here : let a = c.args in Here a.s.now a.anchor = past_guard _ _ (decoded_some _ c.requires) (sym c.guard.ensures ∙ c.in_ok-guard.was) in
-    let fits : let a = c.args in length (queued (generation_of a.s.now).pending) ≤ length a.out.now / 52 = omega (arith, c.queue_len.ensures, c.if-out-queue_len.false) in
+    let fits : let a = c.args in length (queued (generation_of a.s.now).pending) ≤ length a.out.now / 52 = omega (arith, rw c.awaiting_in.ensures.slots_are at c.queue_len.ensures, c.if-out-queue_len.false) in
     let a = c.args in
     took (said_take a.s.now a.anchor here (length a.out.now / 52) fits) (queued_fit _ (generation_in a.s.now here.has).facts.pending_right) c.take_queued.ensures.0.count_is c.take_queued.ensures.1 c.take_queued.ensures.0.output_is

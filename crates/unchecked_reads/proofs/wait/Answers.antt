@@ -41,7 +41,7 @@ record_read-requires c =
 pub overflow_add-result : goal.overflow_add-result
 overflow_add-result c =
     let s = c.args.s.now in
-    omega (arith, one_more s c.requires.0.installed c.args.slot c.waiters-w.result c.waiters-w.ensures)
+    omega (arith, one_more s c.requires.0.installed c.args.slot c.waiters-w.result (rw c.awaiting_in-awaiting.ensures.slots_are at c.waiters-w.ensures))
 
 pub returns : goal.returns
 returns c =
@@ -52,6 +52,6 @@ returns c =
     let h = c.requires.0.installed in
     let q = join a.slot g.pending in
     stepped_as (said_waits s g.anchor (here_own s h) a.slot c.requires.0.fewer c.requires.1 room)
-    (ap (λ (n : ℕ). ok (waiting n)) (add-one _) ∙ ap (λ (n : ℕ). ok (waiting (suc n))) c.waiters-w.ensures)
+    (ap (λ (n : ℕ). ok (waiting n)) (add-one _) ∙ ap (λ (n : ℕ). ok (waiting (suc n))) (rw c.awaiting_in-awaiting.ensures.slots_are at c.waiters-w.ensures))
     (counted s h g.top q (joins s h a.slot room) (generation_in s h).facts.few_records _ c.join.ensures (count_waiting c.is_awaiting-joined.result) c.record_read.ensures
-    ∙ ap (λ (x : Bool). overlay (reading (store_of s).config g g.top q (count_waiting x g.totals)) s) c.is_awaiting-joined.ensures)
+    ∙ ap (λ (x : Bool). overlay (reading (store_of s).config g g.top q (count_waiting x g.totals)) s) (rw c.awaiting_in-awaiting.ensures.slots_are at c.is_awaiting-joined.ensures))
