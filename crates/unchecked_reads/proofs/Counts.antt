@@ -36,13 +36,6 @@ use Rattle.unchecked_reads.proofs.Image.{few_waiters}
 leb_same : (a b c d : ℕ) → (a ≤ b → c ≤ d) → (b < a → d < c) → leb a b ≡ leb c d
 leb_same a b c d f g = split (leb a b) (λ p. p ∙ sym (le-leb c d (f (leb-true a b p)))) (λ p. p ∙ sym (lt-leb c d (g (leb-false a b p))))
 
--- The queue is full, or not.
-pub full_no : {r x : Bool} (y : Bool) → r ≡ x → r ≡ true → false ≡ (not x && y)
-full_no y e f = ap (λ (z : Bool). not z && y) (sym (sym e ∙ f))
-
-pub full_last : {r x : Bool} {n m : ℕ} → r ≡ x → r ≡ false → n ≡ m → leb 64 n ≡ (not x && leb 64 m)
-full_last {r} {x} {n} {m} e f g = ap (leb 64) g ∙ ap (λ (z : Bool). not z && leb 64 m) (sym (sym e ∙ f))
-
 -- A slot has no more waiters than all.
 waiters_few : (s : Slot) (q : List Pending) → waiters_of s q ≤ all_waiters q
 unfolding waiters_of all_waiters
