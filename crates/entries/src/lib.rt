@@ -4,7 +4,8 @@
 ghost use Rattle.std.specs.Prelude.{◌≡◌, ◌+◌, ◌≤◌, length, drop};
 ghost use Rattle.model.specs.Numbers.{be};
 ghost use Rattle.model.specs.Slots.{address_eqb};
-ghost use Rattle.model.specs.Entries.{u256_at, address_of, slot_of, slot_bytes};
+ghost use Rattle.model.specs.Advance.{relevant};
+ghost use Rattle.model.specs.Entries.{u256_at, address_of, slot_of, addresses_of, slot_bytes};
 ghost use Rattle.words.specs.Parts.{placed};
 ghost use Rattle.entries.specs.Bytes.{address_bytes, u256_bytes, write_bytes};
 
@@ -55,6 +56,14 @@ pub fn is_address(s: &[u8], at: usize, address: Address) -> bool
     words::read_u64(s, at + 12) == address.w2
         && words::read_u64(s, at + 4) == address.w1
         && words::read_u32(s, at) == address.w0
+}
+
+// Whether an address is on a list of them, 20 bytes each.
+pub fn names_address(list: &[u8], address: Address) -> bool
+    ensures { result ≡ relevant (addresses_of list.now) address }
+{
+    list.chunks_exact(20)
+        .any(|entry| is_address(entry, 0, address))
 }
 
 // The four bytes of x at `at`.
