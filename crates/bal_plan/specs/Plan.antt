@@ -2,8 +2,7 @@
 use Rattle.std.specs.Prelude.{ℕ, Bool, true, cond, List, [], ◌∷◌, ltb, None, Option, Some}
 use Rattle.model.specs.declared.storage_memo.Address.{Address}
 use Rattle.model.specs.Advance.{relevant}
-use Rattle.model.specs.Entries.{address_of}
-use Rattle.entries.specs.Lists.{all_entries}
+use Rattle.model.specs.Entries.{addresses_of}
 
 -- The plan (`BalPlan`): the addresses that it names, and a cap on writes and on reads or none. No address admits every account.
 pub record BalPlan : Type 0 where
@@ -21,13 +20,10 @@ abbrev pub within_cap : Option ℕ → ℕ → ℕ
 within_cap None n = n
 within_cap (Some c) n = cond (ltb c n) c n
 
--- The addresses of a lent list, 20 bytes each; the plan that a list and two caps give.
-abbrev pub addresses_in : List ℕ → List Address
-addresses_in b = all_entries address_of 20 b
-
+-- The plan that a lent list of addresses and two caps give.
 abbrev pub plan_of : List ℕ → Option ℕ → Option ℕ → BalPlan
 plan_of addresses max_writes max_reads =
-    record { addresses = addresses_in addresses; max_write_seeds = max_writes; max_read_prefetches = max_reads }
+    record { addresses = addresses_of addresses; max_write_seeds = max_writes; max_read_prefetches = max_reads }
 
 -- The largest number of entries that a cap lets through: no list has as many as 2^64 − 1.
 abbrev pub limit_of : Option ℕ → ℕ

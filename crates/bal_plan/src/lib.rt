@@ -2,7 +2,8 @@
 #![tactic(auto)]
 
 ghost use Rattle.std.specs.Prelude.{◌≡◌};
-ghost use Rattle.bal_plan.specs.Plan.{admits_from, addresses_in, limit_of};
+ghost use Rattle.model.specs.Entries.{addresses_of};
+ghost use Rattle.bal_plan.specs.Plan.{admits_from, limit_of};
 
 use model::storage_memo::Address;
 
@@ -15,10 +16,7 @@ pub fn limit(cap: Option<u64>) -> usize
 
 // Whether the plan admits an account: it names no address, or its own.
 pub fn admits(plan_addresses: &[u8], address: Address) -> bool
-    ensures { result ≡ admits_from (addresses_in plan_addresses.now) address }
+    ensures { result ≡ admits_from (addresses_of plan_addresses.now) address }
 {
-    plan_addresses.len() < 20
-        || plan_addresses
-            .chunks_exact(20)
-            .any(|entry| entries::is_address(entry, 0, address))
+    plan_addresses.len() < 20 || entries::names_address(plan_addresses, address)
 }
