@@ -15,6 +15,7 @@ pub fn limit(cap: Option<u64>) -> usize
 }
 
 // Whether the plan admits an account: it names no address, or its own.
+#[tactic(auto, using(crate::proofs::Admitting::admits_all, crate::proofs::Admitting::admits_named))]
 pub fn admits(plan_addresses: &[u8], address: Address) -> bool
     ensures { result ≡ admits_from (addresses_of plan_addresses.now) address }
 {
