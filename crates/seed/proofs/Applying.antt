@@ -1,5 +1,6 @@
 -- A write applied to the bytes of a store, and that it leaves a store. Assumes nothing.
 use Rattle.std.specs.Prelude.{None, Option, Some}
+use Rattle.std.specs.Bool.{then_some}
 use Rattle.std.proofs.lemmas.Option.{none-some, same_Some}
 use mathlib.Core.Path.{◌≡◌, refl, sym, ap, ap₂, subst, ◌∙◌}
 use mathlib.Core.Bool.{Bool, true, false, cond}
@@ -15,7 +16,7 @@ use Rattle.model.specs.Slots.{Value, u256_fits}
 use Rattle.model.specs.declared.delta_snapshot.Content.{Content}
 use Rattle.model.specs.Contents.{valued}
 use Rattle.model.specs.Layers.{Layer, insert, record_count}
-use Rattle.model.specs.Advance.{WriteKind, overwrite, apply_write, relevant}
+use Rattle.model.specs.Advance.{WriteKind, apply_write, relevant}
 use Rattle.model.specs.Entries.{addresses_of}
 use Rattle.model.specs.Store.{Config, Generation, Store, chain, with_top}
 use Rattle.model.specs.Refusals.{store_size}
@@ -47,8 +48,10 @@ module _ (b : List ℕ) (s : Slot) (c : Content) (f : Found) (r : Bool) (p : f �
   pub settled_so : (after : List ℕ) → r ≡ true → after ≡ retopped (insert s c (generation_of b).top) b → Settled true after (insert s c (generation_of b).top) b
   settled_so after e h = record { room_is = sym e ∙ room_for; bytes_are = h }
 
-pub answer_done : (room : Bool) (k : WriteKind) → room ≡ true → Some k ≡ cond room (Some k) None
-answer_done room k e = sym (ap (λ (x : Bool). cond x (Some k) None) e)
+-- What a write did, where there was room.
+done : (room : Bool) (w : Kind) → applied_kind (then_some room w) ≡ cond room (Some (kind_of w)) None
+done true w = refl
+done false w = refl
 
 -- A write of the kind w, as the code has it.
 module _ (b addresses : List ℕ) (s : Slot) (v : Value) (w : Kind) (e : kind_of w ≡ kind_in b addresses s) where
@@ -71,12 +74,12 @@ module _ (b addresses : List ℕ) (s : Slot) (v : Value) (w : Kind) (e : kind_of
         bytes_are = h.bytes_are ∙ ap₂ (λ (x : Bool) (y : Layer). cond x (retopped y b) b) m (sym q);
       }
 
-  pub wrote_over : (r : Option Kind) (after : List ℕ) (u : ℕ) (room : Bool) → w ≡ Overwrite u → applied_kind r ≡ cond room (Some (overwrite u)) None → Settled room after (insert s (valued u v) own) b → Wrote r after b addresses s v
-  wrote_over r after u room i a h = wrote r after (insert s (valued u v) own) room (ap (λ (x : Kind). apply_write number (kind_of x) s v own) i) (a ∙ ap (λ (x : Kind). cond room (Some (kind_of x)) None) (sym i)) h
+  pub wrote_over : (r : Option Kind) (after : List ℕ) (u : ℕ) (room : Bool) → w ≡ Overwrite u → r ≡ then_some room (Overwrite u) → Settled room after (insert s (valued u v) own) b → Wrote r after b addresses s v
+  wrote_over r after u room i a h = wrote r after (insert s (valued u v) own) room (ap (λ (x : Kind). apply_write number (kind_of x) s v own) i) (ap applied_kind a ∙ done room (Overwrite u) ∙ ap (λ (x : Kind). cond room (Some (kind_of x)) None) (sym i)) h
 
-  pub wrote_new : (r : Option Kind) (after : List ℕ) (n : ℕ) (room : Bool) → w ≡ New → n ≡ number → applied_kind r ≡ cond room (Some (kind_of w)) None → Settled room after (insert s (valued n v) own) b → Wrote r after b addresses s v
+  pub wrote_new : (r : Option Kind) (after : List ℕ) (n : ℕ) (room : Bool) → w ≡ New → n ≡ number → r ≡ then_some room w → Settled room after (insert s (valued n v) own) b → Wrote r after b addresses s v
   wrote_new r after n room i m a h =
-      wrote r after (insert s (valued n v) own) room (ap (λ (x : Kind). apply_write number (kind_of x) s v own) i ∙ ap (λ (x : ℕ). insert s (valued x v) own) (sym m)) a h
+      wrote r after (insert s (valued n v) own) room (ap (λ (x : Kind). apply_write number (kind_of x) s v own) i ∙ ap (λ (x : ℕ). insert s (valued x v) own) (sym m)) (ap applied_kind a ∙ done room w) h
 
   -- A skipped write leaves the bytes, which are those of the store with its own top.
   pub wrote_none : Bytes b → Installed b → w ≡ Skip → Wrote (Some w) b b addresses s v
@@ -156,10 +159,6 @@ some_true false j k e = absurd (none-some j (sym e))
 module _ (r : Option Kind) (after b addresses : List ℕ) (s : Slot) (v : Value) where
   pub wrote_full : Wrote r after b addresses s v → r ≡ None → has_room_for (top_after b addresses s v) b ≡ false
   wrote_full h e = none_false _ (kind_in b addresses s) (ap applied_kind (sym e) ∙ h.answer_is)
-
-  -- The bytes stay where there is no room.
-  pub wrote_same : Wrote r after b addresses s v → r ≡ None → after ≡ b
-  wrote_same h e = h.bytes_are ∙ ap (λ (x : Bool). cond x (retopped (top_after b addresses s v) b) b) (wrote_full h e)
 
   module _ (w : Kind) where
     pub wrote_done : Wrote r after b addresses s v → r ≡ Some w → (has_room_for (top_after b addresses s v) b ≡ true) × (kind_of w ≡ kind_in b addresses s)

@@ -9,16 +9,9 @@ use Rattle.model.specs.declared.delta_snapshot.Slot.{Slot}
 use Rattle.model.specs.declared.delta_snapshot.Retention.{Retention}
 use Rattle.model.specs.Slots.{LastUse, serves}
 use Rattle.model.specs.Layers.{Layer, freshest_use}
-use Rattle.model.specs.Advance.{WriteKind, overwrite, new, skip, unserved_kind, write_kind, final_write_kind}
+use Rattle.model.specs.Advance.{WriteKind, overwrite, unserved_kind, write_kind, final_write_kind}
 use Rattle.image.specs.Area.{layers_below}
 use Rattle.image.proofs.Areas.{below_all}
-
--- A slot that is not served, by the answer t of the search of the list.
-pub is_new : (t j : Bool) → t ≡ j → t ≡ true → new ≡ unserved_kind j
-is_new t j e h = ap unserved_kind (sym h ∙ e)
-
-pub is_skip : (t j : Bool) → t ≡ j → t ≡ false → skip ≡ unserved_kind j
-is_skip t j e h = ap unserved_kind (sym h ∙ e)
 
 -- Of the freshest use in the base, as the code has it.
 module _ (R : Retention) (n : ℕ) (j : Bool) (b : List Layer) (s : Slot) (used : Option LastUse) (k : ℕ) (m : k ≡ length b) (fresh : used ≡ freshest_use s (layers_below k b)) where

@@ -8,7 +8,6 @@ use native.Mathlib.Numerals.{add-one}
 use native.Mathlib.Omega.{arith}
 use lib.ListN.{length, take, drop, drop_of_length-le}
 use lib.Seq.{drop-drop}
-use Rattle.std.specs.List.{list_any}
 use Rattle.model.specs.declared.storage_memo.Address.{Address}
 use Rattle.model.specs.Slots.{address_eqb}
 use Rattle.model.specs.Advance.{Write, relevant}
@@ -65,12 +64,3 @@ module _ (b : List ℕ) (a : Address) where
   pub relevant_end : (i : ℕ) → length b / 20 ≤ i → relevant (drop i (addresses_of b)) a ≡ false
   unfolding relevant addresses_of
   relevant_end i h = ap (λ (x : List Address). relevant x a) (none_left address_of 20 (length b / 20) i b h)
-
--- As a chain over the addresses answers.
-pub any_relevant : (a : Address) (b : List ℕ) → list_any (λ m. address_eqb (address_of m) a) (chunks 20 (length b / 20) b) ≡ relevant (addresses_of b) a
-unfolding relevant addresses_of
-any_relevant a b = go (chunks 20 (length b / 20) b)
-  where
-    go : (cs : List (List ℕ)) → list_any (λ m. address_eqb (address_of m) a) cs ≡ relevant (map address_of cs) a
-    go [] = refl
-    go (m ∷ cs) = ap (λ (r : Bool). address_eqb (address_of m) a || r) (go cs)

@@ -1,14 +1,14 @@
 -- The order of addresses, the search among those that rise, and their buckets. Assumes nothing.
 use mathlib.Core.Path.{◌≡◌, refl, sym, ap, subst, ◌∙◌}
 use mathlib.Core.Bool.{Bool, true, false, not, ◌||◌}
-use mathlib.Core.List.{List, [], ◌∷◌}
+use mathlib.Core.List.{List, []}
 use Prim.Native.Nat.{ℕ, zero, suc, ◌+◌, ◌-◌, ◌*◌, ◌/◌, ◌≤◌, ◌<◌}
 use native.Mathlib.Numerals.{add-one}
 use native.Mathlib.Omega.{arith}
 use lib.Dec.{eqb, ltb}
 use lib.ListN.{length, take, drop, get_or, set}
 use lib.Seq.{drop-drop, get_or-set_same, get_or-set_other}
-use borrow.Author.Tests.{eq-eqb, ne_eqb, eqb-true, eqb-false, le-ltb, ltb-true, ltb-false}
+use borrow.Author.Tests.{eqb-true, eqb-false, ltb-true, ltb-false}
 use Rattle.std.specs.List.{list_all, range_with_len}
 use Rattle.std.specs.List.Sorted.{IsPartitionedBy, IsPartitionPoint}
 use Rattle.std.specs.Simd.{first_chunks}
@@ -16,48 +16,15 @@ use Rattle.std.proofs.lemmas.Bool.{not-true}
 use Rattle.std.proofs.lemmas.List.FromFn.{length-range_with_len, get_or-range_with_len}
 use Rattle.std.proofs.lemmas.List.Sums.{AllPass-from_list_all}
 use Rattle.model.specs.declared.storage_memo.Address.{Address}
-use Rattle.model.specs.Slots.{address_words, words_ltb, address_eqb}
+use Rattle.model.specs.Slots.{address_words, address_eqb}
 use Rattle.model.specs.Advance.{relevant}
 use Rattle.model.specs.Entries.{address_of, addresses_of}
 use Rattle.entries.proofs.Numbers.{address_take}
-use Rattle.model.proofs.SlotLaws.{split, not_both, and_false, or_right, words_eqb_true, words_ltb_irrefl, words_ltb_total, words_ltb_trans}
+use Rattle.model.proofs.SlotLaws.{split, not_both, or_right, words_eqb_true, words_ltb_irrefl, words_ltb_total, words_ltb_trans}
 use Rattle.seed.specs.Rising.{address_ltb, address_in, Rise, RiseIf, bucket_of, Noted}
 use Rattle.seed.proofs.Entries.{relevant_at, relevant_end}
 
 -- The order -------------------------------------------------------------------------------------------
-
-or_false : (t : Bool) → (t || false) ≡ t
-or_false true = refl
-or_false false = refl
-
--- The first words that differ decide.
-differ : (x y : ℕ) (xs ys : List ℕ) → (x ≡ y → ⊥) → words_ltb (x ∷ xs) (y ∷ ys) ≡ ltb x y
-unfolding words_ltb
-differ x y xs ys n = rw (ne_eqb x y n) (or_false (ltb x y))
-
-same : (x y : ℕ) (xs ys : List ℕ) → x ≡ y → words_ltb (x ∷ xs) (y ∷ ys) ≡ words_ltb xs ys
-unfolding words_ltb
-same x y xs ys e = rw (le-ltb x y (omega arith), eq-eqb x y e)
-
-last : (x y : ℕ) → words_ltb (x ∷ []) (y ∷ []) ≡ ltb x y
-unfolding words_ltb
-last x y = rw (and_false (eqb x y)) (or_false (ltb x y))
-
-module _ (b a : Address) where
-  pub first_less : (x : ℕ) → x ≡ b.w0 → (x ≡ a.w0 → ⊥) → ltb x a.w0 ≡ address_ltb b a
-  unfolding address_ltb
-  first_less x e n = ap (λ (t : ℕ). ltb t a.w0) e ∙ sym (differ b.w0 a.w0 _ _ (λ h. n (e ∙ h)))
-
-  module _ (x : ℕ) (p : x ≡ b.w0) (q : x ≡ a.w0) where
-    pub second_less : (y : ℕ) → y ≡ b.w1 → (y ≡ a.w1 → ⊥) → ltb y a.w1 ≡ address_ltb b a
-    unfolding address_ltb
-    second_less y e n = ap (λ (t : ℕ). ltb t a.w1) e ∙ sym (same b.w0 a.w0 _ _ (sym p ∙ q) ∙ differ b.w1 a.w1 _ _ (λ h. n (e ∙ h)))
-
-    pub third_less : (y z : ℕ) → y ≡ b.w1 → y ≡ a.w1 → z ≡ b.w2 → ltb z a.w2 ≡ address_ltb b a
-    unfolding address_ltb
-    third_less y z d e f =
-        ap (λ (t : ℕ). ltb t a.w2) f
-        ∙ sym (same b.w0 a.w0 _ _ (sym p ∙ q) ∙ same b.w1 a.w1 _ _ (sym d ∙ e) ∙ last b.w2 a.w2)
 
 abbrev of_words : List ℕ → Address
 of_words ws = record { w0 = get_or ws 0 0; w1 = get_or ws 1 0; w2 = get_or ws 2 0 }

@@ -61,9 +61,6 @@ seed_grows R n relevance b (w ∷ ws) l =
 
 -- The counts ------------------------------------------------------------------------------------------
 
-pub counted_by : (w k : Kind) (c : WriteCounts) → w ≡ k → count_one (kind_of k) c ≡ count_one (kind_of w) c
-counted_by w k c e = ap (λ (x : Kind). count_one (kind_of x) c) (sym e)
-
 -- One write more, counted by the code and by the model.
 record Step (k : WriteKind) (s : Slot) (c : WriteCounts) (t : AppliedWrites) : Type 0 where
   applied_step : (count_one k c).applied + length t.applied ≡ c.applied + length (count_write k s t).applied

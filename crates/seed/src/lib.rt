@@ -25,19 +25,12 @@ pub enum WriteKind {
 }
 
 // Whether the address at `at` comes before the given one.
+#[tactic(auto, using(std::proofs::lemmas::Bool::Decides::nat_tests), unfolding(crate::specs::Rising::address_ltb, model::specs::Slots::words_ltb))]
 fn address_before(addresses: &[u8], at: usize, address: Address) -> bool
     requires { at + 20 ≤ length addresses.now }
     ensures { result ≡ address_ltb (address_of (drop at addresses.now)) address }
 {
-    let a = words::read_u32(addresses, at);
-    if a != address.w0 {
-        return a < address.w0;
-    }
-    let b = words::read_u64(addresses, at + 4);
-    if b != address.w1 {
-        return b < address.w1;
-    }
-    words::read_u64(addresses, at + 12) < address.w2
+    entries::read_address(addresses, at) < address
 }
 
 // Whether the addresses rise.
@@ -60,15 +53,6 @@ fn relevant_rising(addresses: &[u8], address: Address) -> bool
     place < list.len() && entries::is_address(&list[place], 0, address)
 }
 
-// Whether an address is on the list.
-pub fn relevant(addresses: &[u8], address: Address) -> bool
-    ensures { result ≡ relevant (addresses_of addresses.now) address }
-{
-    addresses
-        .chunks_exact(20)
-        .any(|entry| entries::is_address(entry, 0, address))
-}
-
 // The slot of write i.
 pub fn write_slot_of(writes: &[u8], i: usize) -> Slot
     requires { (i + 1) * 84 ≤ length writes.now }
@@ -78,22 +62,12 @@ pub fn write_slot_of(writes: &[u8], i: usize) -> Slot
 }
 
 // The value of write i.
+#[tactic(auto, using(entries::proofs::Numbers::u256_in))]
 pub fn write_value_of(writes: &[u8], i: usize) -> U256
     requires { (i + 1) * 84 ≤ length writes.now }
     ensures { result ≡ u256_at 52 (drop (i * 84) writes.now) }
 {
     entries::read_u256(writes, i * 84 + 52)
-}
-
-// Whether an address is on the list, whose addresses rise where `rise` says so.
-fn relevant_by(addresses: &[u8], rise: bool, address: Address) -> bool
-    requires { RiseIf rise addresses.now }
-    ensures { result ≡ relevant (addresses_of addresses.now) address }
-{
-    if rise {
-        return relevant_rising(addresses, address);
-    }
-    relevant(addresses, address)
 }
 
 // The bucket of an address.
@@ -114,64 +88,76 @@ fn note(addresses: &[u8], table: &mut [u16])
     }
 }
 
-// Whether an address is on the list, by the place that its bucket notes; by a search where another address has it.
-fn relevant_in(addresses: &[u8], table: &[u16], rise: bool, address: Address) -> bool
-    requires { Indexed rise table.now addresses.now }
-    ensures { result ≡ relevant (addresses_of addresses.now) address }
-{
-    let k = table[bucket(address)] as usize;
-    if k == 0 {
-        return false;
-    }
-    if k <= addresses.len() / 20 {
-        if entries::is_address(addresses, (k - 1) * 20, address) {
-            return true;
-        }
-    }
-    relevant_by(addresses, rise, address)
+// The addresses that are relevant: their list, a table of their buckets, and whether they rise.
+#[derive(Clone, Copy)]
+struct Relevance<'a> {
+    addresses: &'a [u8],
+    table: &'a [u16],
+    rise: bool,
+    ghost indexed: { Indexed rise table.now addresses.now },
 }
 
-// What a write does to a slot that is not served.
-fn unserved(addresses: &[u8], table: &[u16], rise: bool, address: Address) -> WriteKind
-    requires { Indexed rise table.now addresses.now }
-    ensures { kind_of result ≡ unserved_kind (relevant (addresses_of addresses.now) address) }
-{
-    if relevant_in(addresses, table, rise, address) {
-        WriteKind::New
-    } else {
-        WriteKind::Skip
+impl<'a> Relevance<'a> {
+    // Whether an address is on the list, by a search: by halves where they rise.
+    fn finds(self, address: Address) -> bool
+        ensures { result ≡ relevant (addresses_of self.entry.addresses.now) address }
+    {
+        if self.rise {
+            return relevant_rising(self.addresses, address);
+        }
+        entries::names_address(self.addresses, address)
+    }
+
+    // Whether an address is on the list, by the place that its bucket notes; by a search where another address has it.
+    fn contains(self, address: Address) -> bool
+        ensures { result ≡ relevant (addresses_of self.entry.addresses.now) address }
+    {
+        let k = usize::from(self.table[bucket(address)]);
+        if k == 0 {
+            return false;
+        }
+        if k <= self.addresses.len() / 20 {
+            if entries::is_address(self.addresses, (k - 1) * 20, address) {
+                return true;
+            }
+        }
+        self.finds(address)
+    }
+
+    // What a write does to a slot that is not served.
+    fn unserved(self, address: Address) -> WriteKind
+        ensures { kind_of result ≡ unserved_kind (relevant (addresses_of self.entry.addresses.now) address) }
+    {
+        if self.contains(address) {
+            WriteKind::New
+        } else {
+            WriteKind::Skip
+        }
     }
 }
 
 // What a write does to a slot that the top has no value of.
-fn base_kind(s: &[u8], addresses: &[u8], table: &[u16], rise: bool, slot: Slot) -> WriteKind
-    requires { Installed s.now × Indexed rise table.now addresses.now }
-    ensures { kind_of result ≡ write_kind (store_of s.now).config.retention (generation_of s.now).anchor.number (relevant (addresses_of addresses.now) slot.address) (freshest_use slot (generation_of s.now).base) }
+fn base_kind(s: &[u8], relevance: Relevance, slot: Slot) -> WriteKind
+    requires { Installed s.now }
+    ensures { kind_of result ≡ write_kind (store_of s.now).config.retention (generation_of s.now).anchor.number (relevant (addresses_of relevance.entry.addresses.now) slot.address) (freshest_use slot (generation_of s.now).base) }
 {
     let used = layers::freshest_use(s, layers::layers(s), slot);
     let Some(u) = used else {
-        return unserved(addresses, table, rise, slot.address);
+        return relevance.unserved(slot.address);
     };
     if layers::retention(s).serves(u, layers::installed_number(s)) {
         return WriteKind::Overwrite(u);
     }
-    unserved(addresses, table, rise, slot.address)
+    relevance.unserved(slot.address)
 }
 
 // What a write does, by the slot's place in the top: a slot that the top has a value of was written earlier, and its use is kept.
-fn kind(
-    s: &[u8],
-    addresses: &[u8],
-    table: &[u16],
-    rise: bool,
-    place: Found,
-    slot: Slot,
-) -> WriteKind
-    requires { Installed s.now × Indexed rise table.now addresses.now × (place ≡ place_in slot (generation_of s.now).top) }
-    ensures { kind_of result ≡ final_write_kind (store_of s.now).config.retention (generation_of s.now).anchor.number (relevant (addresses_of addresses.now) slot.address) (valued_use (find slot (generation_of s.now).top)) (freshest_use slot (generation_of s.now).base) }
+fn kind(s: &[u8], relevance: Relevance, place: Found, slot: Slot) -> WriteKind
+    requires { Installed s.now × (place ≡ place_in slot (generation_of s.now).top) }
+    ensures { kind_of result ≡ final_write_kind (store_of s.now).config.retention (generation_of s.now).anchor.number (relevant (addresses_of relevance.entry.addresses.now) slot.address) (valued_use (find slot (generation_of s.now).top)) (freshest_use slot (generation_of s.now).base) }
 {
     match layers::top_valued_use(s, place) {
-        None => base_kind(s, addresses, table, rise, slot),
+        None => base_kind(s, relevance, slot),
         Some(u) => WriteKind::Overwrite(u),
     }
 }
@@ -188,82 +174,51 @@ fn set_if_room(s: &mut [u8], place: Found, slot: Slot, c: Content) -> bool
     true
 }
 
-// What a write did, where there was room.
-fn answer(room: bool, what: WriteKind) -> Option<WriteKind>
-    ensures { applied_kind result ≡ cond room (Some (kind_of what)) None }
-{
-    if room { Some(what) } else { None }
-}
-
 // Applies one write to the top: what it did. Where there is no room for its record it is none, and the bytes stay.
-fn apply(
-    s: &mut [u8],
-    addresses: &[u8],
-    table: &[u16],
-    rise: bool,
-    slot: Slot,
-    value: U256,
-) -> Option<WriteKind>
-    requires { Installed s.old × Indexed rise table.now addresses.now }
-    ensures { Wrote result s.new s.old addresses.now slot value }
+fn apply(s: &mut [u8], relevance: Relevance, slot: Slot, value: U256) -> Option<WriteKind>
+    requires { Installed s.old }
+    ensures { Wrote result s.new s.old relevance.entry.addresses.now slot value }
 {
     let place = layers::top_place(s, slot);
-    let what = kind(s, addresses, table, rise, place, slot);
+    let what = kind(s, relevance, place, slot);
     match what {
         WriteKind::Overwrite(u) => {
             let c = Content {
                 used: u,
                 held: Some(value),
             };
-            let room = set_if_room(s, place, slot, c);
-            answer(room, what)
+            set_if_room(s, place, slot, c).then_some(what)
         }
         WriteKind::New => {
             let c = Content {
                 used: layers::installed_number(s),
                 held: Some(value),
             };
-            let room = set_if_room(s, place, slot, c);
-            answer(room, what)
+            set_if_room(s, place, slot, c).then_some(what)
         }
         WriteKind::Skip => Some(what),
     }
 }
 
-// The counts with one write more.
-fn counted(counts: WriteCounts, what: WriteKind) -> WriteCounts
-    requires { (counts.applied + 1 < 2 ^ 64) × (counts.overwritten + 1 < 2 ^ 64) × (counts.skipped + 1 < 2 ^ 64) }
-    ensures { result ≡ count_one (kind_of what) counts }
+// Counts one write more.
+fn count(counts: &mut WriteCounts, what: WriteKind)
+    requires { (counts.old.applied + 1 < 2 ^ 64) × (counts.old.overwritten + 1 < 2 ^ 64) × (counts.old.skipped + 1 < 2 ^ 64) }
+    ensures { counts.new ≡ count_one (kind_of what) counts.old }
 {
     match what {
-        WriteKind::Overwrite(_) => WriteCounts {
-            applied: counts.applied + 1,
-            overwritten: counts.overwritten + 1,
-            skipped: counts.skipped,
-        },
-        WriteKind::New => WriteCounts {
-            applied: counts.applied + 1,
-            overwritten: counts.overwritten,
-            skipped: counts.skipped,
-        },
-        WriteKind::Skip => WriteCounts {
-            applied: counts.applied,
-            overwritten: counts.overwritten,
-            skipped: counts.skipped + 1,
-        },
+        WriteKind::Overwrite(_) => {
+            counts.applied += 1;
+            counts.overwritten += 1;
+        }
+        WriteKind::New => counts.applied += 1,
+        WriteKind::Skip => counts.skipped += 1,
     }
 }
 
-// Applies the writes of a list in order, with the table of the addresses: their counts, or none where there is no room.
-fn seed_by(
-    s: &mut [u8],
-    addresses: &[u8],
-    table: &[u16],
-    rise: bool,
-    writes: &[u8],
-) -> Option<WriteCounts>
-    requires { Installed s.old × Indexed rise table.now addresses.now }
-    ensures { SeededAs result s.new s.old addresses.now writes.now }
+// Applies the writes of a list in order, with what is known of the addresses: their counts, or none where there is no room.
+fn seed_by(s: &mut [u8], relevance: Relevance, writes: &[u8]) -> Option<WriteCounts>
+    requires { Installed s.old }
+    ensures { SeededAs result s.new s.old relevance.entry.addresses.now writes.now }
 {
     let mut counts = WriteCounts {
         applied: 0,
@@ -273,8 +228,8 @@ fn seed_by(
     for i in 0..writes.len() / 84 {
         let slot = write_slot_of(writes, i);
         let value = write_value_of(writes, i);
-        let what = apply(s, addresses, table, rise, slot, value)?;
-        counts = counted(counts, what);
+        let what = apply(s, relevance, slot, value)?;
+        count(&mut counts, what);
     }
     Some(counts)
 }
@@ -287,5 +242,10 @@ pub fn seed_final_writes(s: &mut [u8], addresses: &[u8], writes: &[u8]) -> Optio
     let rise = rises(addresses);
     let mut table = [0u16; 65536];
     note(addresses, &mut table);
-    seed_by(s, addresses, &table, rise, writes)
+    let relevance = Relevance {
+        addresses,
+        table: &table,
+        rise,
+    };
+    seed_by(s, relevance, writes)
 }

@@ -3,4 +3,4 @@ use Rattle.seed.proofs.Seeding.{Along}
 use Rattle.seed.proofs.seed_by.Given as goal
 
 abbrev pub invariant-loop-i : goal.invariant-loop-i
-invariant-loop-i l = Along l.initial.s l.addresses l.writes l.s l.counts l.i
+invariant-loop-i l = Along l.initial.s l.relevance.addresses.now l.writes l.s l.counts l.i
