@@ -1,52 +1,36 @@
--- The code's answer of a call of any kind, and its lines.
-use Rattle.std.specs.Prelude.{ℕ, List, [], ◌∷◌, ◌++◌, length, Ok, Err}
-use Rattle.model.specs.Advance as model
+-- What the code's reply to a call of any kind means in the model's terms.
+use Rattle.std.specs.Prelude.{ℕ, List, Result, Ok, Err}
+use Rattle.model.specs.declared.refusal.Refusal.{Refusal}
 use Rattle.model.specs.Entries.{first_slots}
 use Rattle.model.specs.Store.{Report, opened, anchor_same, anchor_fresh, advanced, value, no_value, stored, waiting, listed, answered}
 use Rattle.model.specs.Refusals.{Answer, refuse, ok, refusal_number}
 use Rattle.replies.specs.declared.DeltaReport.{DeltaReport}
-use Rattle.replies.specs.Replies.{AdvanceReply}
-use Rattle.replies.specs.declared.WriteCounts.{WriteCounts}
-use Rattle.replies.specs.Replies.{TakeReply}
+use Rattle.replies.specs.Replies.{delta_report}
 use Rattle.listing.specs.declared.AdvanceCounts.{AdvanceCounts}
-use Rattle.listing.specs.Lines.{counts_line}
-use Rattle.call_list.specs.Listing.{ascii, line, decimals, slot_lines, refusal_line, report_lines}
 use Rattle.call_answers.specs.declared.CallAnswer.{CallAnswer}
-use Rattle.call_answers.specs.declared.CallAnswer.TheVariants.{Refused, Open, AnchorSame, AnchorFresh, Advance, Value, Nothing, Put, Wait, Take, Answer as Answered}
+use Rattle.call_answers.specs.declared.CallAnswer.TheVariants.{Open, AnchorSame, AnchorFresh, Advance, Value, Nothing, Put, Wait, Take, Answer as Answered}
 
--- The code's counts for a report of writes, and its report for an advance's.
-abbrev pub counts_of_writes : model.AppliedWrites → WriteCounts
-counts_of_writes t = record { applied = length t.applied; overwritten = t.overwritten; skipped = t.skipped }
+-- A call's reply.
+abbrev pub CallReply : Type 0
+CallReply = Result CallAnswer Refusal
 
-abbrev pub report_for : model.DeltaReport → DeltaReport
-report_for d =
-    record { outcome = d.outcome; writes = counts_of_writes d.writes; held = d.held; live = d.live; compaction = d.compaction }
+-- What an accepted call reports, with its output after the call: the slots that a take lists and those that an advance wrote are the output's first entries.
+abbrev pub report_of : CallAnswer → List ℕ → Report
+report_of Open out = opened
+report_of AnchorSame out = anchor_same
+report_of AnchorFresh out = anchor_fresh
+report_of (Advance r) out = advanced (delta_report r out)
+report_of (Value v) out = value v
+report_of Nothing out = no_value
+report_of Put out = stored
+report_of (Wait n) out = waiting n
+report_of (Take n) out = listed (first_slots n out)
+report_of (Answered m e w) out = answered m e w
 
--- The code's answer for the model's.
-abbrev pub call_report : Report → CallAnswer
-call_report opened = Open
-call_report anchor_same = AnchorSame
-call_report anchor_fresh = AnchorFresh
-call_report (advanced d) = Advance (report_for d)
-call_report (value v) = Value v
-call_report no_value = Nothing
-call_report stored = Put
-call_report (waiting n) = Wait n
-call_report (listed ss) = Take (length ss)
-call_report (answered m e w) = Answered m e w
-
-abbrev pub call_answer : Answer → CallAnswer
-call_answer (refuse n) = Refused n
-call_answer (ok r) = call_report r
-
--- The same answer of a take, and of an advance.
-abbrev pub take_as : TakeReply → CallAnswer
-take_as (Err e) = Refused (refusal_number e)
-take_as (Ok n) = Take n
-
-abbrev pub advance_as : AdvanceReply → CallAnswer
-advance_as (Err e) = Refused (refusal_number e)
-advance_as (Ok r) = Advance r
+-- The model's answer that a reply is, with the output after the call.
+abbrev pub reply_of : CallReply → List ℕ → Answer
+reply_of (Err e) out = refuse (refusal_number e)
+reply_of (Ok a) out = ok (report_of a out)
 
 -- The counts of an advance's report, as its line has them.
 abbrev pub counts_in : DeltaReport → AdvanceCounts
@@ -62,34 +46,19 @@ counts_in r =
       dropped = r.compaction.dropped;
     }
 
--- The slots that an answer lists.
-abbrev pub slots_listed : CallAnswer → ℕ
-slots_listed (Refused n) = 0
-slots_listed Open = 0
-slots_listed AnchorSame = 0
-slots_listed AnchorFresh = 0
-slots_listed (Advance r) = 0
-slots_listed (Value v) = 0
-slots_listed Nothing = 0
-slots_listed Put = 0
-slots_listed (Wait n) = 0
-slots_listed (Take n) = n
-slots_listed (Answered m e w) = 0
+-- The slots that an accepted call lists, and those that a reply does.
+abbrev pub slots_of_answer : CallAnswer → ℕ
+slots_of_answer Open = 0
+slots_of_answer AnchorSame = 0
+slots_of_answer AnchorFresh = 0
+slots_of_answer (Advance r) = 0
+slots_of_answer (Value v) = 0
+slots_of_answer Nothing = 0
+slots_of_answer Put = 0
+slots_of_answer (Wait n) = 0
+slots_of_answer (Take n) = n
+slots_of_answer (Answered m e w) = 0
 
--- The lines of a take of n slots, with the output that has them.
-abbrev pub take_lines : ℕ → List ℕ → List ℕ
-take_lines n b = line (ascii "take") (decimals (n ∷ [])) ++ slot_lines (first_slots n b)
-
--- The lines of an answer, with the output that has a take's slots.
-abbrev pub lines_of : CallAnswer → List ℕ → List ℕ
-lines_of (Refused n) b = refusal_line n
-lines_of Open b = report_lines opened
-lines_of AnchorSame b = report_lines anchor_same
-lines_of AnchorFresh b = report_lines anchor_fresh
-lines_of (Advance r) b = counts_line r.outcome (counts_in r)
-lines_of (Value v) b = report_lines (value v)
-lines_of Nothing b = report_lines no_value
-lines_of Put b = report_lines stored
-lines_of (Wait n) b = report_lines (waiting n)
-lines_of (Take n) b = take_lines n b
-lines_of (Answered m e w) b = report_lines (answered m e w)
+abbrev pub slots_listed : CallReply → ℕ
+slots_listed (Err e) = 0
+slots_listed (Ok a) = slots_of_answer a

@@ -1,25 +1,23 @@
-// The answer of a call of any kind, and its lines.
+// The reply of a call of any kind, and its lines.
 #![tactic(auto)]
 
-ghost use Rattle.std.specs.Prelude.{◌≡◌, ◌+◌, ◌*◌, ◌≤◌, length};
+ghost use Rattle.std.specs.Prelude.{◌≡◌, ◌+◌, ◌*◌, ◌≤◌, ℕ, List, length, Ok};
 ghost use Rattle.model.specs.Entries.{first_slots};
-ghost use Rattle.replies.specs.Replies.{open_reply, install_reply, look_reply, put_reply, read_reply, answer_reply};
-ghost use Rattle.call_list.specs.Listing.{slot_lines};
+ghost use Rattle.model.specs.Store.{listed};
+ghost use Rattle.replies.specs.Replies.{install_reply, look_reply, read_reply, answer_reply, advance_reply};
+ghost use Rattle.call_list.specs.Listing.{slot_lines, report_lines, answer_lines};
 ghost use Rattle.digits.specs.Written.{Written};
 ghost use Rattle.listing.specs.Lines.{counts_line};
-ghost use Rattle.call_answers.specs.Answers.{call_answer, take_as, advance_as, counts_in, slots_listed, take_lines, lines_of};
+ghost use Rattle.call_answers.specs.Answers.{reply_of, counts_in, slots_listed};
 
 use listing::AdvanceCounts;
+use model::refusal::Refusal;
 use model::storage_memo::U256;
-use replies::{
-    AdvanceReply, AnswerReply, Answered, DeltaReport, InstallReply, Installed, LookReply,
-    OpenReply, PutReply, ReadOutcome, ReadReply, TakeReply,
-};
+use replies::{Answered, DeltaReport, Installed, ReadOutcome};
 
-// A call's answer: a refusal's number, or what it reports. The slots that a take lists are in its output.
+// What an accepted call reports. The slots that a take lists are in its output, and so are the writes that an advance applied.
 #[derive(Clone, Copy, Debug, PartialEq, Eq)]
 pub enum CallAnswer {
-    Refused(u64),
     Open,
     AnchorSame,
     AnchorFresh,
@@ -36,96 +34,64 @@ pub enum CallAnswer {
     },
 }
 
-// An open's answer.
-pub fn of_open(a: OpenReply) -> CallAnswer
-    ensures { result ≡ call_answer (open_reply a) }
-{
-    match a {
-        Err(refusal) => CallAnswer::Refused(refusal.number()),
-        Ok(()) => CallAnswer::Open,
+// A call's reply.
+pub type CallReply = Result<CallAnswer, Refusal>;
+
+// What an install reports.
+impl From<Installed> for CallAnswer {
+    ghost from_gives = { λ i a. (out : List ℕ) → reply_of (Ok a) out ≡ install_reply (Ok i) };
+
+    fn from(installed: Installed) -> CallAnswer {
+        match installed {
+            Installed::Same => CallAnswer::AnchorSame,
+            Installed::Fresh => CallAnswer::AnchorFresh,
+        }
     }
 }
 
-// An install's answer.
-pub fn of_install(a: InstallReply) -> CallAnswer
-    ensures { result ≡ call_answer (install_reply a) }
-{
-    match a {
-        Err(refusal) => CallAnswer::Refused(refusal.number()),
-        Ok(Installed::Same) => CallAnswer::AnchorSame,
-        Ok(Installed::Fresh) => CallAnswer::AnchorFresh,
+// What a look or a get reports.
+impl From<Option<U256>> for CallAnswer {
+    ghost from_gives = { λ o a. (out : List ℕ) → reply_of (Ok a) out ≡ look_reply (Ok o) };
+
+    fn from(value: Option<U256>) -> CallAnswer {
+        match value {
+            None => CallAnswer::Nothing,
+            Some(v) => CallAnswer::Value(v),
+        }
     }
 }
 
-// A look's or a get's answer.
-pub fn of_look(a: LookReply) -> CallAnswer
-    ensures { result ≡ call_answer (look_reply a) }
-{
-    match a {
-        Err(refusal) => CallAnswer::Refused(refusal.number()),
-        Ok(None) => CallAnswer::Nothing,
-        Ok(Some(v)) => CallAnswer::Value(v),
+// What a read reports.
+impl From<ReadOutcome> for CallAnswer {
+    ghost from_gives = { λ o a. (out : List ℕ) → reply_of (Ok a) out ≡ read_reply (Ok o) };
+
+    fn from(outcome: ReadOutcome) -> CallAnswer {
+        match outcome {
+            ReadOutcome::Value(v) => CallAnswer::Value(v),
+            ReadOutcome::Waiting(n) => CallAnswer::Wait(n),
+        }
     }
 }
 
-// A put's answer.
-pub fn of_put(a: PutReply) -> CallAnswer
-    ensures { result ≡ call_answer (put_reply a) }
-{
-    match a {
-        Err(refusal) => CallAnswer::Refused(refusal.number()),
-        Ok(()) => CallAnswer::Put,
+// What an answer reports.
+impl From<Answered> for CallAnswer {
+    ghost from_gives = { λ r a. (out : List ℕ) → reply_of (Ok a) out ≡ answer_reply (Ok r) };
+
+    fn from(report: Answered) -> CallAnswer {
+        CallAnswer::Answer {
+            members: report.members,
+            errors: report.errors,
+            woken: report.woken,
+        }
     }
 }
 
-// A read's answer.
-pub fn of_read(a: ReadReply) -> CallAnswer
-    ensures { result ≡ call_answer (read_reply a) }
-{
-    match a {
-        Err(refusal) => CallAnswer::Refused(refusal.number()),
-        Ok(ReadOutcome::Value(v)) => CallAnswer::Value(v),
-        Ok(ReadOutcome::Waiting(n)) => CallAnswer::Wait(n),
-    }
-}
+// What an advance reports.
+impl From<DeltaReport> for CallAnswer {
+    ghost from_gives = { λ r a. (out : List ℕ) → reply_of (Ok a) out ≡ advance_reply (Ok r) out };
 
-// A take's answer.
-pub fn of_take(a: TakeReply) -> CallAnswer
-    ensures { result ≡ take_as a }
-{
-    match a {
-        Err(refusal) => CallAnswer::Refused(refusal.number()),
-        Ok(n) => CallAnswer::Take(n as usize),
-    }
-}
-
-// An answer's answer.
-pub fn of_answer(a: AnswerReply) -> CallAnswer
-    ensures { result ≡ call_answer (answer_reply a) }
-{
-    match a {
-        Err(refusal) => CallAnswer::Refused(refusal.number()),
-        Ok(
-            Answered {
-                members,
-                errors,
-                woken,
-            },
-        ) => CallAnswer::Answer {
-            members,
-            errors,
-            woken,
-        },
-    }
-}
-
-// An advance's answer.
-pub fn of_advance(a: AdvanceReply) -> CallAnswer
-    ensures { result ≡ advance_as a }
-{
-    match a {
-        Err(refusal) => CallAnswer::Refused(refusal.number()),
-        Ok(report) => CallAnswer::Advance(report),
+    fn from(report: DeltaReport) -> CallAnswer {
+        CallAnswer::Advance(report)
     }
 }
 
@@ -144,7 +110,7 @@ fn slot_lines(out: &mut [u8], at: usize, entries: &[u8], n: usize) -> usize
 // The lines of a take.
 fn take_lines(out: &mut [u8], at: usize, entries: &[u8], n: usize) -> usize
     requires { (n * 52 ≤ length entries.now) × (at + 26 + 110 * n ≤ length out.old) }
-    ensures { Written at (take_lines n entries.now) out.old out.new result }
+    ensures { Written at (report_lines (listed (first_slots n entries.now))) out.old out.new result }
 {
     let next = listing::word_line(out, at, b"take", &[n as u64]);
     slot_lines(out, next, entries, n)
@@ -171,13 +137,12 @@ fn advance_line(out: &mut [u8], at: usize, report: DeltaReport) -> usize
     listing::advance_line(out, at, outcome, counts)
 }
 
-// The lines of an answer.
-pub fn answer_lines(out: &mut [u8], at: usize, a: CallAnswer, entries: &[u8]) -> usize
-    requires { (slots_listed a * 52 ≤ length entries.now) × (at + 197 + 110 * slots_listed a ≤ length out.old) }
-    ensures { Written at (lines_of a entries.now) out.old out.new result }
+// The lines of an accepted call.
+fn report_lines(out: &mut [u8], at: usize, a: CallAnswer, entries: &[u8]) -> usize
+    requires { (slots_listed (Ok a) * 52 ≤ length entries.now) × (at + 197 + 110 * slots_listed (Ok a) ≤ length out.old) }
+    ensures { Written at (answer_lines (reply_of (Ok a) entries.now)) out.old out.new result }
 {
     match a {
-        CallAnswer::Refused(n) => listing::refusal_line(out, at, n),
         CallAnswer::Open => listing::word_line(out, at, b"open", &[]),
         CallAnswer::AnchorSame => listing::word_line(out, at, b"anchor same", &[]),
         CallAnswer::AnchorFresh => listing::word_line(out, at, b"anchor fresh", &[]),
@@ -192,5 +157,16 @@ pub fn answer_lines(out: &mut [u8], at: usize, a: CallAnswer, entries: &[u8]) ->
             errors,
             woken,
         } => listing::word_line(out, at, b"answer", &[members, errors, woken]),
+    }
+}
+
+// The lines of a reply.
+pub fn answer_lines(out: &mut [u8], at: usize, r: CallReply, entries: &[u8]) -> usize
+    requires { (slots_listed r * 52 ≤ length entries.now) × (at + 197 + 110 * slots_listed r ≤ length out.old) }
+    ensures { Written at (answer_lines (reply_of r entries.now)) out.old out.new result }
+{
+    match r {
+        Err(refusal) => listing::refusal_line(out, at, refusal.number()),
+        Ok(a) => report_lines(out, at, a, entries),
     }
 }

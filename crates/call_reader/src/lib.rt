@@ -11,7 +11,7 @@ use model::storage_memo::{ReadAnchor, U256};
 use reader::{FaultKind, Reader, Span};
 
 // A call on one slot.
-#[derive(Clone, Copy)]
+#[derive(Clone, Copy, Debug, PartialEq, Eq)]
 pub enum SlotCall {
     Look(Slot),
     Get(Slot),
@@ -20,7 +20,7 @@ pub enum SlotCall {
 }
 
 // A call at an anchor. An answer's members are 53 or 85 bytes each, a failed round's slots 52.
-#[derive(Clone, Copy)]
+#[derive(Clone, Copy, Debug, PartialEq, Eq)]
 pub enum AnchoredCall {
     OnSlot(SlotCall),
     Take,
@@ -29,7 +29,7 @@ pub enum AnchoredCall {
 }
 
 // What was prepared for an advance: skip, relevant addresses of 20 bytes each and writes of 84.
-#[derive(Clone, Copy)]
+#[derive(Clone, Copy, Debug, PartialEq, Eq)]
 pub struct Prepared {
     pub skip: u64,
     pub relevance: Span,
@@ -37,7 +37,7 @@ pub struct Prepared {
 }
 
 // A call, as the list says it. An open has its capacity alone, or depth and retention too. An advance has child and parent hash.
-#[derive(Clone, Copy)]
+#[derive(Clone, Copy, Debug, PartialEq, Eq)]
 pub enum ListedCall {
     OpenDefault(u64),
     OpenWith(u64, u64, Retention),
@@ -47,7 +47,7 @@ pub enum ListedCall {
 }
 
 // What stands after the anchor of a call that names one.
-#[derive(Clone, Copy)]
+#[derive(Clone, Copy, Debug, PartialEq, Eq)]
 enum AnchoredCode {
     Look,
     Get,
@@ -58,7 +58,7 @@ enum AnchoredCode {
 }
 
 // What a call's code says that it is.
-#[derive(Clone, Copy)]
+#[derive(Clone, Copy, Debug, PartialEq, Eq)]
 enum Code {
     Open,
     Install,

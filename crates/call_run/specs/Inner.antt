@@ -1,6 +1,5 @@
 -- What the contracts of the functions inside a run say.
 use Rattle.std.specs.Prelude.{ℕ, ◌≤◌, ◌≡◌, true, List, ◌++◌, leb, length, take, drop, Some, None, Option, is_some}
-use Rattle.std.specs.Prelude as prelude
 use Rattle.image.specs.Image.{decode, bytes_trace, bytes_final}
 use Rattle.call_list.specs.Listed.{ListedCall}
 use Rattle.call_list.specs.Meaning.{default_limits}
@@ -18,7 +17,7 @@ pub record RunAt (t : Progress) (list b out : List ℕ) : Type 0 where
   pub room : t.at ≤ length out
 
 -- The fault that ended the list, if one did.
-abbrev pub fault_met : prelude.Option Fault → Option ℕ
+abbrev pub fault_met : Option Fault → Option ℕ
 fault_met None = None
 fault_met (Some f) = Some (fault_number f.kind)
 

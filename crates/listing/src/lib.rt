@@ -2,15 +2,13 @@
 #![tactic(auto)]
 
 ghost use Rattle.std.specs.Prelude.{◌≡◌, [], ◌∷◌, ◌+◌, ◌≤◌, length};
-ghost use Rattle.model.specs.Advance.{lineage_number, skip_number};
 ghost use Rattle.model.specs.Store.{opened, anchor_same, anchor_fresh, value, no_value, stored, waiting, answered};
 ghost use Rattle.call_list.specs.Listing.{ascii, decimal, decimals, slot_hex, line, refusal_line, report_lines};
 ghost use Rattle.digits.specs.Written.{Written};
 ghost use Rattle.listing.specs.Lines.{carried_counts, cold_counts, counts_line};
 
-use model::bal_prefetch::BalSkip;
 use model::delta_snapshot::Slot;
-use model::read_hub::{CarryOutcome, Lineage};
+use model::read_hub::CarryOutcome;
 use model::storage_memo::U256;
 
 // The counts of an advance's report.
@@ -75,31 +73,6 @@ pub fn slot_line(out: &mut [u8], at: usize, s: Slot) -> usize
     digits::write_byte(out, end, 10)
 }
 
-// Document 01's number of a lineage.
-pub fn lineage_number(l: Lineage) -> u64
-    ensures { result ≡ lineage_number l }
-{
-    match l {
-        Lineage::Linked => 0,
-        Lineage::NoParent => 1,
-        Lineage::NotConsecutive => 2,
-        Lineage::ParentHashUnknown => 3,
-        Lineage::ParentHashMismatch => 4,
-    }
-}
-
-// Document 01's number of a skip.
-pub fn skip_number(k: BalSkip) -> u64
-    ensures { result ≡ skip_number k }
-{
-    match k {
-        BalSkip::Decoded => 0,
-        BalSkip::NoAnchorHash => 1,
-        BalSkip::Rpc => 2,
-        BalSkip::Decode => 3,
-    }
-}
-
 // The line of an advance.
 pub fn advance_line(out: &mut [u8], at: usize, outcome: CarryOutcome, c: AdvanceCounts) -> usize
     requires { at + length (counts_line outcome c) ≤ length out.old }
@@ -124,8 +97,8 @@ pub fn advance_line(out: &mut [u8], at: usize, outcome: CarryOutcome, c: Advance
             ],
         ),
         CarryOutcome::Cold { lineage, bal } => {
-            let l = lineage_number(lineage);
-            let k = skip_number(bal);
+            let l = u64::from(lineage);
+            let k = u64::from(bal);
             word_line(
                 out,
                 at,

@@ -10,7 +10,7 @@ use model::delta_snapshot::Slot;
 use model::storage_memo::{ReadAnchor, U256};
 
 // A place in a call list.
-#[derive(Clone, Copy)]
+#[derive(Clone, Copy, Debug, PartialEq, Eq)]
 pub struct Cursor {
     pub at: usize,
 }
@@ -39,14 +39,14 @@ impl From<FaultKind> for u64 {
 }
 
 // A fault, and the place of its byte: the list's end, where it breaks off.
-#[derive(Clone, Copy)]
+#[derive(Clone, Copy, Debug, PartialEq, Eq)]
 pub struct Fault {
     pub kind: FaultKind,
     pub place: Cursor,
 }
 
 // Entries that stand one after the other: the place of the first, and how many.
-#[derive(Clone, Copy)]
+#[derive(Clone, Copy, Debug, PartialEq, Eq)]
 pub struct Span {
     pub start: usize,
     pub count: usize,

@@ -31,7 +31,7 @@ word_line-requires-in-Cold c =
     let a = c.args in
     let e : a.outcome ≡ Cold c.in-Cold.lineage c.in-Cold.bal = search rules in
     let h = subst (λ (o : CarryOutcome). a.at + length (counts_line o a.c) ≤ length a.out.now) e c.requires in
-    omega (arith, h, ap₂ (λ (x y : ℕ). length (line (ascii "cold") (decimals (cold_counts x y a.c)))) c.lineage_number-l.ensures c.skip_number-k.ensures)
+    omega (arith, h, ap₂ (λ (x y : ℕ). length (line (ascii "cold") (decimals (cold_counts x y a.c)))) c.from-l.ensures c.from-k.ensures)
 
 pub returns-in-AlreadyCurrent : goal.returns-in-AlreadyCurrent
 unfolding ascii
@@ -53,5 +53,5 @@ returns-in-Cold c =
     let a = c.args in
     let e : a.outcome ≡ Cold c.in-Cold.lineage c.in-Cold.bal = search rules in
     written_as c.word_line-in-Cold.ensures
-    (ap₂ (λ (x y : ℕ). line (ascii "cold") (decimals (cold_counts x y a.c))) c.lineage_number-l.ensures c.skip_number-k.ensures
+    (ap₂ (λ (x y : ℕ). line (ascii "cold") (decimals (cold_counts x y a.c))) c.from-l.ensures c.from-k.ensures
     ∙ ap (λ (o : CarryOutcome). counts_line o a.c) (sym e))
