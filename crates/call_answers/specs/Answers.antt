@@ -47,18 +47,18 @@ counts_in r =
     }
 
 -- The slots that an accepted call lists, and those that a reply does.
-abbrev pub slots_of_answer : CallAnswer → ℕ
-slots_of_answer Open = 0
-slots_of_answer AnchorSame = 0
-slots_of_answer AnchorFresh = 0
-slots_of_answer (Advance r) = 0
-slots_of_answer (Value v) = 0
-slots_of_answer Nothing = 0
-slots_of_answer Put = 0
-slots_of_answer (Wait n) = 0
-slots_of_answer (Take n) = n
-slots_of_answer (Answered m e w) = 0
+abbrev pub slots_in : CallAnswer → ℕ
+slots_in Open = 0
+slots_in AnchorSame = 0
+slots_in AnchorFresh = 0
+slots_in (Advance r) = 0
+slots_in (Value v) = 0
+slots_in Nothing = 0
+slots_in Put = 0
+slots_in (Wait n) = 0
+slots_in (Take n) = n
+slots_in (Answered m e w) = 0
 
 abbrev pub slots_listed : CallReply → ℕ
 slots_listed (Err e) = 0
-slots_listed (Ok a) = slots_of_answer a
+slots_listed (Ok a) = slots_in a

@@ -8,7 +8,7 @@ ghost use Rattle.replies.specs.Replies.{install_reply, look_reply, read_reply, a
 ghost use Rattle.call_list.specs.Listing.{slot_lines, report_lines, answer_lines};
 ghost use Rattle.digits.specs.Written.{Written};
 ghost use Rattle.listing.specs.Lines.{counts_line};
-ghost use Rattle.call_answers.specs.Answers.{reply_of, counts_in, slots_listed};
+ghost use Rattle.call_answers.specs.Answers.{report_of, reply_of, counts_in, slots_in, slots_listed};
 
 use listing::AdvanceCounts;
 use model::refusal::Refusal;
@@ -77,11 +77,11 @@ impl From<ReadOutcome> for CallAnswer {
 impl From<Answered> for CallAnswer {
     ghost from_gives = { λ r a. (out : List ℕ) → reply_of (Ok a) out ≡ answer_reply (Ok r) };
 
-    fn from(report: Answered) -> CallAnswer {
+    fn from(answered: Answered) -> CallAnswer {
         CallAnswer::Answer {
-            members: report.members,
-            errors: report.errors,
-            woken: report.woken,
+            members: answered.members,
+            errors: answered.errors,
+            woken: answered.woken,
         }
     }
 }
@@ -90,8 +90,8 @@ impl From<Answered> for CallAnswer {
 impl From<DeltaReport> for CallAnswer {
     ghost from_gives = { λ r a. (out : List ℕ) → reply_of (Ok a) out ≡ advance_reply (Ok r) out };
 
-    fn from(report: DeltaReport) -> CallAnswer {
-        CallAnswer::Advance(report)
+    fn from(advanced: DeltaReport) -> CallAnswer {
+        CallAnswer::Advance(advanced)
     }
 }
 
@@ -139,8 +139,8 @@ fn advance_line(out: &mut [u8], at: usize, report: DeltaReport) -> usize
 
 // The lines of an accepted call.
 fn report_lines(out: &mut [u8], at: usize, a: CallAnswer, entries: &[u8]) -> usize
-    requires { (slots_listed (Ok a) * 52 ≤ length entries.now) × (at + 197 + 110 * slots_listed (Ok a) ≤ length out.old) }
-    ensures { Written at (answer_lines (reply_of (Ok a) entries.now)) out.old out.new result }
+    requires { (slots_in a * 52 ≤ length entries.now) × (at + 197 + 110 * slots_in a ≤ length out.old) }
+    ensures { Written at (report_lines (report_of a entries.now)) out.old out.new result }
 {
     match a {
         CallAnswer::Open => listing::word_line(out, at, b"open", &[]),
@@ -161,6 +161,7 @@ fn report_lines(out: &mut [u8], at: usize, a: CallAnswer, entries: &[u8]) -> usi
 }
 
 // The lines of a reply.
+#[tactic(auto, using(listing::proofs::Lengths::refusal_line_length), unfolding(call_list::specs::Listing::answer_lines))]
 pub fn answer_lines(out: &mut [u8], at: usize, r: CallReply, entries: &[u8]) -> usize
     requires { (slots_listed r * 52 ≤ length entries.now) × (at + 197 + 110 * slots_listed r ≤ length out.old) }
     ensures { Written at (answer_lines (reply_of r entries.now)) out.old out.new result }

@@ -4,14 +4,14 @@
 ghost use Rattle.std.specs.Prelude.{◌≡◌, ◌≤◌, length};
 ghost use Rattle.call_progress.specs.Progress.{store_after, called_at, broken_at, goes_on};
 
-use call_answers::CallAnswer;
+use call_answers::{CallAnswer, CallReply};
 use reader::{Cursor, Fault};
 
 // The room for a call's lines: 197 bytes, and 110 for each of the 64 slots that a take lists at most.
 pub const CALL_LINES: usize = 7237;
 
 // Where a run is: the next call's place in the list, the next line's in the output, whether the bytes are a store, whether the list has ended, and the fault that ended it, if one did.
-#[derive(Clone, Copy)]
+#[derive(Clone, Copy, Debug, PartialEq, Eq)]
 pub struct Progress {
     pub next: usize,
     pub at: usize,
@@ -21,23 +21,23 @@ pub struct Progress {
 }
 
 // Whether the bytes are a store after a call.
-fn known_after(known: bool, a: CallAnswer) -> bool
-    ensures { result ≡ store_after known a }
+fn known_after(known: bool, r: CallReply) -> bool
+    ensures { result ≡ store_after known r }
 {
-    match a {
-        CallAnswer::Open => true,
+    match r {
+        Ok(CallAnswer::Open) => true,
         _ => known,
     }
 }
 
-// After a call with its answer, the place of the next call and that of the next line.
-pub fn after_call(list: &[u8], t: Progress, a: CallAnswer, next: Cursor, at: usize) -> Progress
-    ensures { result ≡ called_at list.now t a next.at at }
+// After a call with its reply, the place of the next call and that of the next line.
+pub fn after_call(list: &[u8], t: Progress, r: CallReply, next: Cursor, at: usize) -> Progress
+    ensures { result ≡ called_at list.now t r next.at at }
 {
     Progress {
         next: next.at,
         at,
-        known: known_after(t.known, a),
+        known: known_after(t.known, r),
         ended: list.len() <= next.at,
         fault: None,
     }

@@ -2,8 +2,9 @@
 use borrow.Author.Rules.{rules}
 use native.Mathlib.Omega.{arith}
 use Rattle.call_list.specs.Listing.{ascii}
-use Rattle.digits.proofs.Writing.{written_then}
+use Rattle.digits.proofs.Writing.{written_then, written_as}
 use Rattle.listing.proofs.Lengths.{take_line_length}
+use Rattle.call_answers.proofs.Lines.{take_lines}
 use Rattle.call_answers.proofs.take_lines.Goals as goal
 
 pub word_line-next-requires : goal.word_line-next-requires
@@ -18,4 +19,4 @@ slot_lines-requires c =
 
 pub returns : goal.returns
 unfolding ascii
-returns c = written_then (omega arith) c.word_line-next.ensures c.slot_lines.ensures
+returns c = written_as (written_then (omega arith) c.word_line-next.ensures c.slot_lines.ensures) (take_lines c.args.n c.args.entries.now)

@@ -1,4 +1,4 @@
--- `call_answers::answer_lines` meets its contract. Assumes nothing.
+-- `call_answers::report_lines` meets its contract. Assumes nothing.
 use Prim.Native.Nat.{ℕ, ◌+◌, ◌*◌, ◌≤◌}
 use mathlib.Core.Path.{◌≡◌, sym, ap}
 use mathlib.Core.List.{List}
@@ -6,22 +6,19 @@ use native.Mathlib.Omega.{arith}
 use lib.ListN.{length}
 use Rattle.digits.proofs.Writing.{written_as}
 use Rattle.digits.specs.Written.{Written}
-use Rattle.call_list.specs.Listing.{ascii, decimals}
+use Rattle.call_list.specs.Listing.{ascii, decimals, report_lines}
 use Rattle.call_answers.specs.declared.CallAnswer.{CallAnswer}
-use Rattle.call_answers.specs.Answers.{slots_listed, lines_of}
-use Rattle.call_answers.proofs.Lines.{lines_length}
-use Rattle.call_answers.proofs.answer_lines.Goals as goal
+use Rattle.call_answers.specs.Answers.{report_of, slots_in}
+use Rattle.call_answers.proofs.Lines.{report_fits, advance_lines}
+use Rattle.call_answers.proofs.report_lines.Goals as goal
 
 -- There is room for the lines of the answer that the match found, and they are the answer's.
 module _ {a r : CallAnswer} (b : List ℕ) (e : a ≡ r) where
-  room : (at n : ℕ) → at + 197 + 110 * slots_listed a ≤ n → at + length (lines_of r b) ≤ n
-  room at n h = omega (arith, lines_length r b, ap slots_listed e)
+  room : (at n : ℕ) → at + 197 + 110 * slots_in a ≤ n → at + length (report_lines (report_of r b)) ≤ n
+  room at n h = omega (arith, report_fits r b, ap slots_in e)
 
-  found : {at m : ℕ} {s t : List ℕ} → Written at (lines_of r b) s t m → Written at (lines_of a b) s t m
-  found w = written_as w (ap (λ (x : CallAnswer). lines_of x b) (sym e))
-
-pub refusal_line-requires : goal.refusal_line-requires
-refusal_line-requires c = room c.args.entries.now c.in-Refused.is c.args.at (length c.args.out.now) c.requires.1
+  found : {at m : ℕ} {s t : List ℕ} → Written at (report_lines (report_of r b)) s t m → Written at (report_lines (report_of a b)) s t m
+  found w = written_as w (ap (λ (x : CallAnswer). report_lines (report_of x b)) (sym e))
 
 pub word_line-requires : goal.word_line-requires
 unfolding ascii decimals
@@ -81,3 +78,6 @@ returns-in-Wait c = found c.args.entries.now c.in-Wait.is c.word_line-in-Wait.en
 pub returns-in-Answer : goal.returns-in-Answer
 unfolding ascii decimals
 returns-in-Answer c = found c.args.entries.now c.in-Answer.is c.word_line-in-Answer.ensures
+
+pub returns-in-Advance : goal.returns-in-Advance
+returns-in-Advance c = found c.args.entries.now c.in-Advance.is (written_as c.advance_line.ensures (advance_lines c.in-Advance.report c.args.entries.now))
