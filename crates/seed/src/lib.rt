@@ -11,6 +11,7 @@ ghost use Rattle.records.specs.Records.{place_in};
 ghost use Rattle.seed.specs.Rising.{address_ltb, Rise, RiseIf, bucket_of, Noted, Indexed};
 ghost use Rattle.seed.specs.Writes.{kind_of, applied_kind, Settled, Wrote, count_one, SeededAs};
 
+use layers::LentGeneration;
 use model::delta_snapshot::{Content, Slot};
 use model::storage_memo::{Address, U256};
 use records::Found;
@@ -137,27 +138,27 @@ impl<'a> Relevance<'a> {
 }
 
 // What a write does to a slot that the top has no value of.
-fn base_kind(s: &[u8], relevance: Relevance, slot: Slot) -> WriteKind
-    requires { Installed s.now }
-    ensures { kind_of result ≡ write_kind (store_of s.now).config.retention (generation_of s.now).anchor.number (relevant (addresses_of relevance.entry.addresses.now) slot.address) (freshest_use slot (generation_of s.now).base) }
+fn base_kind(generation: LentGeneration, relevance: Relevance, slot: Slot) -> WriteKind
+    ensures { kind_of result ≡ write_kind (store_of generation.entry.bytes.now).config.retention (generation_of generation.entry.bytes.now).anchor.number (relevant (addresses_of relevance.entry.addresses.now) slot.address) (freshest_use slot (generation_of generation.entry.bytes.now).base) }
 {
-    let used = layers::freshest_use(s, layers::layers(s), slot);
+    let used = generation.freshest_use(generation.layers(), slot);
     let Some(u) = used else {
         return relevance.unserved(slot.address);
     };
-    if layers::retention(s).serves(u, layers::installed_number(s)) {
+    let retention = generation.retention();
+    if retention.serves(u, generation.installed_number()) {
         return WriteKind::Overwrite(u);
     }
     relevance.unserved(slot.address)
 }
 
 // What a write does, by the slot's place in the top: a slot that the top has a value of was written earlier, and its use is kept.
-fn kind(s: &[u8], relevance: Relevance, place: Found, slot: Slot) -> WriteKind
-    requires { Installed s.now × (place ≡ place_in slot (generation_of s.now).top) }
-    ensures { kind_of result ≡ final_write_kind (store_of s.now).config.retention (generation_of s.now).anchor.number (relevant (addresses_of relevance.entry.addresses.now) slot.address) (valued_use (find slot (generation_of s.now).top)) (freshest_use slot (generation_of s.now).base) }
+fn kind(generation: LentGeneration, relevance: Relevance, place: Found, slot: Slot) -> WriteKind
+    requires { place ≡ place_in slot (generation_of generation.bytes.now).top }
+    ensures { kind_of result ≡ final_write_kind (store_of generation.entry.bytes.now).config.retention (generation_of generation.entry.bytes.now).anchor.number (relevant (addresses_of relevance.entry.addresses.now) slot.address) (valued_use (find slot (generation_of generation.entry.bytes.now).top)) (freshest_use slot (generation_of generation.entry.bytes.now).base) }
 {
-    match layers::top_valued_use(s, place) {
-        None => base_kind(s, relevance, slot),
+    match generation.top_valued_use(place) {
+        None => base_kind(generation, relevance, slot),
         Some(u) => WriteKind::Overwrite(u),
     }
 }
@@ -167,7 +168,7 @@ fn set_if_room(s: &mut [u8], place: Found, slot: Slot, c: Content) -> bool
     requires { Installed s.old × (place ≡ place_in slot (generation_of s.old).top) }
     ensures { Settled result s.new (insert slot c (generation_of s.old).top) s.old }
 {
-    if !top::has_room(s, place) {
+    if !top::has_room(LentGeneration { bytes: s }, place) {
         return false;
     }
     top::set_top(s, place, slot, c);
@@ -179,8 +180,10 @@ fn apply(s: &mut [u8], relevance: Relevance, slot: Slot, value: U256) -> Option<
     requires { Installed s.old }
     ensures { Wrote result s.new s.old relevance.entry.addresses.now slot value }
 {
-    let place = layers::top_place(s, slot);
-    let what = kind(s, relevance, place, slot);
+    let generation = LentGeneration { bytes: s };
+    let place = generation.top_place(slot);
+    let what = kind(generation, relevance, place, slot);
+    let number = generation.installed_number();
     match what {
         WriteKind::Overwrite(u) => {
             let c = Content {
@@ -191,7 +194,7 @@ fn apply(s: &mut [u8], relevance: Relevance, slot: Slot, value: U256) -> Option<
         }
         WriteKind::New => {
             let c = Content {
-                used: layers::installed_number(s),
+                used: number,
                 held: Some(value),
             };
             set_if_room(s, place, slot, c).then_some(what)

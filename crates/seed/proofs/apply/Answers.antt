@@ -11,7 +11,7 @@ returns-in-Overwrite c =
 pub returns-in-New : goal.returns-in-New
 returns-in-New c =
     let a = c.args in
-    wrote_new a.s.now a.relevance.addresses.now a.slot a.value _ c.kind-what.ensures _ _ _ _ c.in-New.is c.installed_number.ensures c.then_some-in-New.ensures c.set_if_room-in-New.ensures
+    wrote_new a.s.now a.relevance.addresses.now a.slot a.value _ c.kind-what.ensures _ _ _ _ c.in-New.is c.installed_number-number.ensures c.then_some-in-New.ensures c.set_if_room-in-New.ensures
 
 pub returns-in-Skip : goal.returns-in-Skip
 returns-in-Skip c =
