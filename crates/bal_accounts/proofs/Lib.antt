@@ -1,2 +1,3 @@
 -- Laws of walking accounts.
 pub mod AccountWalk
+pub mod Within

@@ -1,2 +1,3 @@
 -- The plan of final writes.
 pub mod Plan
+pub mod Lent

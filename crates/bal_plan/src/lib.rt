@@ -14,10 +14,20 @@ pub fn limit(cap: Option<u64>) -> usize
     cap.map_or(usize::MAX, |n| n as usize)
 }
 
-// Whether the plan admits an account: it names no address, or its own.
-#[tactic(auto, using(crate::proofs::Admitting::admits_all, crate::proofs::Admitting::admits_named))]
-pub fn admits(plan_addresses: &[u8], address: Address) -> bool
-    ensures { result ≡ admits_from (addresses_of plan_addresses.now) address }
-{
-    plan_addresses.len() < 20 || entries::names_address(plan_addresses, address)
+// A plan as it is lent: its addresses, 20 bytes each, and its caps.
+#[derive(Clone, Copy)]
+pub struct Plan<'a> {
+    pub addresses: &'a [u8],
+    pub max_writes: Option<u64>,
+    pub max_reads: Option<u64>,
+}
+
+impl<'a> Plan<'a> {
+    // Whether the plan admits an account: it names no address, or its own.
+    #[tactic(auto, using(crate::proofs::Admitting::admits_all, crate::proofs::Admitting::admits_named))]
+    pub fn admits(self, address: Address) -> bool
+        ensures { result ≡ admits_from (addresses_of self.entry.addresses.now) address }
+    {
+        self.addresses.len() < 20 || entries::names_address(self.addresses, address)
+    }
 }

@@ -10,7 +10,8 @@ ghost use Rattle.final_writes.specs.FinalWrites.{counts_differ};
 ghost use Rattle.final_writes.specs.Lent.{lent_lists, lent_final_writes, Answers};
 ghost use Rattle.final_writes.specs.Counts.{counts_of};
 
-use bal_accounts::Walk;
+use bal_accounts::{BalLists, Walk};
+use bal_plan::Plan;
 use model::refusal::Refusal;
 
 // The counts of a seed (`BalSeed`): its writes and reads, and the entries that the plan left out.
@@ -85,16 +86,17 @@ pub fn final_writes(
     if writes_out.len() / 84 < slots.len() / 40 || reads_out.len() / 52 < reads.len() / 32 {
         return Err(Refusal::LentTooShort);
     }
-    let w = bal_accounts::seed_from_accounts(
+    let lists = BalLists {
         accounts,
         slots,
         changes,
         reads,
-        plan_addresses,
+    };
+    let plan = Plan {
+        addresses: plan_addresses,
         max_writes,
         max_reads,
-        writes_out,
-        reads_out,
-    );
+    };
+    let w = lists.seed(plan, writes_out, reads_out);
     Ok(counts_of(w, bal_plan::limit(max_writes), bal_plan::limit(max_reads)))
 }
