@@ -1,7 +1,7 @@
 -- What a call leaves: whether the bytes are a store, how many bytes and how long an output, and room for the slots that it lists. Assumes nothing.
-use Rattle.std.specs.Prelude.{None, Option, Some, is_some}
+use Rattle.std.specs.Prelude.{None, Option, Some, is_some, Ok, Err}
 use Prim.Native.Nat.{ℕ, suc, ◌*◌, ◌/◌, ◌≤◌}
-use mathlib.Core.Path.{◌≡◌, refl, sym, ap, subst, ◌∙◌}
+use mathlib.Core.Path.{◌≡◌, refl, sym, ap, ◌∙◌}
 use mathlib.Core.Bool.{Bool, true, false, cond}
 use mathlib.Core.List.{List, [], ◌∷◌}
 use native.Mathlib.Omega.{arith}
@@ -15,10 +15,9 @@ use Rattle.model.specs.declared.delta_snapshot.Slot.{Slot}
 use Rattle.model.specs.Slots.{Value, anchor_eqb}
 use Rattle.model.specs.Reads.{Pending, queued}
 use Rattle.model.specs.Entries.{slot_bytes, slots_bytes, with_slots}
-use Rattle.model.specs.Store.{Config, Generation, look, get, put, read, AnchoredCall, on_slot, take, answer, answer_failed, Prepared, StoreCall, install, advance, at_anchor, Call, open_store, on_store, Report, listed, Store, Memory, value_report, perform_get, perform_read, perform_at, resolved, perform, accept}
-use Rattle.model.specs.Refusals.{Lent, work_size, Answer, ok, refusal, lent_too_short, output_short_of_queue, conclude, step}
+use Rattle.model.specs.Store.{Config, Generation, look, get, put, read, AnchoredCall, on_slot, take, answer, answer_failed, Prepared, StoreCall, install, advance, at_anchor, Call, open_store, on_store, Report, opened, anchor_same, anchor_fresh, advanced, value, no_value, stored, waiting, listed, answered, Store, Memory, value_report, perform_get, perform_read, perform_at, resolved, perform, accept}
+use Rattle.model.specs.Refusals.{Lent, work_size, Answer, refuse, ok, refusal, lent_too_short, output_short_of_queue, conclude, step}
 use Rattle.model.proofs.SlotLaws.{split, or_false_right}
-use Rattle.model.proofs.EntryLaws.{SlotFits, Each, each_none}
 use Rattle.model.proofs.Acceptance.{Unrefused, unrefused}
 use Rattle.image.specs.WellFormed.{installed_ok}
 use Rattle.image.specs.Claims.{call_fits, memory_ok}
@@ -30,42 +29,70 @@ use Rattle.image.proofs.OnBytes.{step_holds}
 use Rattle.image.proofs.Closure.{closure}
 use Rattle.unchecked_calls.proofs.Turned.{memory_of}
 use Rattle.awaiting.proofs.Entries.{length_slot}
-use Rattle.call_answers.specs.declared.CallAnswer.{CallAnswer}
-use Rattle.call_answers.specs.declared.CallAnswer.TheVariants.{Refused, Open, AnchorSame, AnchorFresh, Advance, Value as Found, Nothing, Put, Wait, Take, Answer as Answered}
-use Rattle.call_answers.specs.Answers.{call_answer, slots_listed}
-use Rattle.unchecked_reads.proofs.Queue.{queued_fit}
-use Rattle.call_answers.proofs.Lines.{listed_in, SlotsFit, slots_listed_count}
+use Rattle.listing.proofs.Lengths.{listed_count}
+use Rattle.call_answers.specs.declared.CallAnswer.TheVariants.{Open, AnchorSame, AnchorFresh, Advance, Value as Found, Nothing, Put, Wait, Take, Answer as Answered}
+use Rattle.call_answers.specs.Answers.{CallReply, reply_of}
+use Rattle.call_answers.proofs.Lines.{slots_told}
 use Rattle.call_progress.specs.Progress.{store_after}
 use Rattle.call_steps.specs.Steps.{with_lent}
 use Rattle.call_steps.proofs.Said.{IsAdvanced, is_advanced, reported}
 
 -- Whether the bytes are a store ---------------------------------------------------------------------------
 
-still : (a : CallAnswer) → true ≡ store_after true a
-still (Refused n) = refl
-still Open = refl
-still AnchorSame = refl
-still AnchorFresh = refl
-still (Advance r) = refl
-still (Found v) = refl
-still Nothing = refl
-still Put = refl
-still (Wait n) = refl
-still (Take n) = refl
-still (Answered m e w) = refl
+-- The same by the model's answer.
+abbrev store_told : Bool → Answer → Bool
+store_told known (refuse n) = known
+store_told known (ok opened) = true
+store_told known (ok anchor_same) = known
+store_told known (ok anchor_fresh) = known
+store_told known (ok (advanced d)) = known
+store_told known (ok (value v)) = known
+store_told known (ok no_value) = known
+store_told known (ok stored) = known
+store_told known (ok (waiting n)) = known
+store_told known (ok (listed ss)) = known
+store_told known (ok (answered m e w)) = known
 
-concluded : (m : Memory) (c : Call) (r : Option ℕ) → is_some (conclude r m (accept m c)).memory ≡ store_after (is_some m) (call_answer (conclude r m (accept m c)).answer)
+told : (known : Bool) (r : CallReply) (out : List ℕ) → store_after known r ≡ store_told known (reply_of r out)
+told known (Err e) out = refl
+told known (Ok Open) out = refl
+told known (Ok AnchorSame) out = refl
+told known (Ok AnchorFresh) out = refl
+told known (Ok (Advance r)) out = refl
+told known (Ok (Found v)) out = refl
+told known (Ok Nothing) out = refl
+told known (Ok Put) out = refl
+told known (Ok (Wait n)) out = refl
+told known (Ok (Take n)) out = refl
+told known (Ok (Answered m e w)) out = refl
+
+still : (a : Answer) → true ≡ store_told true a
+still (refuse n) = refl
+still (ok opened) = refl
+still (ok anchor_same) = refl
+still (ok anchor_fresh) = refl
+still (ok (advanced d)) = refl
+still (ok (value v)) = refl
+still (ok no_value) = refl
+still (ok stored) = refl
+still (ok (waiting n)) = refl
+still (ok (listed ss)) = refl
+still (ok (answered m e w)) = refl
+
+concluded : (m : Memory) (c : Call) (r : Option ℕ) → is_some (conclude r m (accept m c)).memory ≡ store_told (is_some m) (conclude r m (accept m c)).answer
 unfolding accept
 concluded m c (Some n) = refl
 concluded m (open_store n d R) None = refl
 concluded None (on_store c) None = refl
-concluded (Some st) (on_store c) None = still (call_answer (ok (perform st.config st.installed c).report))
+concluded (Some st) (on_store c) None = still (ok (perform st.config st.installed c).report)
 
-pub store_after_is : (b : List ℕ) (c : BytesCall) → call_fits c.call ≡ true → is_some (decode (bytes_step b c).bytes) ≡ store_after (is_some (decode b)) (call_answer (bytes_step b c).answer)
+pub store_after_is : (b : List ℕ) (c : BytesCall) (r : CallReply) (out : List ℕ) → call_fits c.call ≡ true → reply_of r out ≡ (bytes_step b c).answer → is_some (decode (bytes_step b c).bytes) ≡ store_after (is_some (decode b)) r
 unfolding bytes_step step
-store_after_is b c f =
+store_after_is b c r out f e =
     ap (λ (m : Memory). is_some m) (step_holds closure b c f).reads
     ∙ concluded (decode b) c.call (refusal (decode b) (lent_call (length b) c).lent c.call)
+    ∙ ap (store_told (is_some (decode b))) (sym e)
+    ∙ sym (told (is_some (decode b)) r out)
 
 pub length_after : (b : List ℕ) (c : BytesCall) → call_fits c.call ≡ true → length (bytes_step b c).bytes ≡ length b
 unfolding bytes_step
@@ -73,25 +100,22 @@ length_after b c f = (step_holds closure b c f).as_long
 
 -- Room for the slots that a call lists --------------------------------------------------------------------
 
--- At most 64 slots, each fits, and the output holds them.
+-- At most 64 slots, and the output holds them.
 pub record AnswerRoom (a : Answer) (entries : List ℕ) : Type 0 where
-  pub few : slots_listed (call_answer a) ≤ 64
-  pub held : slots_listed (call_answer a) * 52 ≤ length entries
-  pub fit : SlotsFit a
+  pub few : slots_told a ≤ 64
+  pub held : slots_told a * 52 ≤ length entries
 
 -- What a report lists and puts, with the n entries that the output holds.
 record Listing (n : ℕ) (r : Report) : Type 0 where
-  few : length (listed_in r) ≤ 64
-  held : length (listed_in r) ≤ n
-  fit : Each SlotFits (listed_in r)
+  few : listed_count r ≤ 64
+  held : listed_count r ≤ n
   puts : length (output_slots r) ≤ n
 
 -- A report that lists and puts nothing.
-silent : (n : ℕ) (r : Report) → listed_in r ≡ [] → output_slots r ≡ [] → Listing n r
+silent : (n : ℕ) (r : Report) → listed_count r ≡ 0 → output_slots r ≡ [] → Listing n r
 silent n r e f =
-    let x : length (listed_in r) ≡ 0 = ap length e in
     let y : length (output_slots r) ≡ 0 = ap length f in
-    record { few = omega arith; held = omega arith; fit = subst (λ (ss : List Slot). Each SlotFits ss) (sym e) each_none; puts = omega arith }
+    record { few = omega arith; held = omega arith; puts = omega arith }
 
 length_cond : (t : Bool) (s : Slot) (ss : List Slot) → length (cond t ss (s ∷ ss)) ≤ suc (length ss)
 length_cond true s ss = omega arith
@@ -116,7 +140,7 @@ module _ (n : ℕ) where
   of_read g s (Some v) = silent n _ refl refl
 
   of_advance : (k : ℕ) {r : Report} → IsAdvanced k r → k ≤ n → Listing n r
-  of_advance k (is_advanced d e) h = record { few = omega arith; held = omega arith; fit = each_none; puts = omega arith }
+  of_advance k (is_advanced d e) h = record { few = omega arith; held = omega arith; puts = omega arith }
 
 -- An accepted take, by what was not refused: 27; and an advance: 9.
 of_take : (cfg : Config) (g : Generation) (l : Lent) (a : ReadAnchor) → installed_ok cfg (Some g) ≡ true → Unrefused (memory_of cfg (Some g)) l (on_store (at_anchor a take)) → Listing l.output_entries (listed (queued g.pending))
@@ -124,7 +148,7 @@ unfolding output_short_of_queue
 of_take cfg g l a e u =
     let k : GenerationFacts cfg g = generation_facts cfg g e in
     let h : length (queued g.pending) ≤ l.output_entries = ltb-false l.output_entries (length (queued g.pending)) u.output_holds_queue in
-    record { few = omega (arith, length_queued g.pending, k.few_pending); held = h; fit = queued_fit g.pending k.pending_right; puts = h }
+    record { few = omega (arith, length_queued g.pending, k.few_pending); held = h; puts = h }
 
 writes_held : (st : Store) (l : Lent) (child : ReadAnchor) (h : U256) (p : Prepared) → Unrefused (Some st) l (on_store (advance child h p)) → length p.writes ≤ l.output_entries
 unfolding lent_too_short
@@ -180,12 +204,11 @@ module _ (b : List ℕ) (c : Call) (w : ℕ) (entries : List ℕ) where
   answer_room = go (refusal (decode b) lent c) refl
     where
       go : (r : Option ℕ) → refusal (decode b) lent c ≡ r → AnswerRoom (conclude r (decode b) (accept (decode b) c)).answer entries
-      go (Some n) q = record { few = omega arith; held = omega arith; fit = each_none }
+      go (Some n) q = record { few = omega arith; held = omega arith }
       go None q =
           let r : Report = (accept (decode b) c).report in
           let k : Listing (length entries / 52) r = reports q in
-          let e : slots_listed (call_answer (ok r)) ≡ length (listed_in r) = slots_listed_count (ok r) in
-          record { few = omega (arith, k.few); held = omega (arith, k.held, div-add-mod' (length entries) 52); fit = k.fit }
+          record { few = k.few; held = omega (arith, k.held, div-add-mod' (length entries) 52) }
 
   pub output_length : length (output_after (bytes_step b (with_lent c w entries)).answer entries) ≡ length entries
   unfolding bytes_step step

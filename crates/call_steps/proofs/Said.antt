@@ -1,8 +1,8 @@
 -- What a call comes to on bytes with what is lent to it. Assumes nothing.
 use Rattle.replies.specs.declared.ReadOutcome.TheVariants.{Value, Waiting}
 use Rattle.replies.specs.declared.Installed.TheVariants.{Same, Fresh}
-use Rattle.std.specs.Prelude.{Ok, Err}
-use Rattle.std.specs.Prelude.{None, Option, Some, is_some}
+use Rattle.std.proofs.lemmas.Result.{err_from_is_err_and}
+use Rattle.std.specs.Prelude.{None, Option, Some, is_some, IsErrAnd, Ok, Err}
 use Prim.Native.Nat.{ℕ, suc, ◌≤◌}
 use mathlib.Core.Path.{◌≡◌, refl, sym, ap, subst, ◌∙◌}
 use mathlib.Core.Bool.{false}
@@ -20,26 +20,20 @@ use Rattle.model.specs.Reads.{Member}
 use Rattle.model.specs.Contents.{valued_use}
 use Rattle.model.specs.Layers.{Layer, find, freshest_use}
 use Rattle.model.specs.Entries.{slots_bytes}
-use Rattle.model.specs.Store.{Config, Generation, look, get, put, read, on_slot, take, answer, answer_failed, Prepared, StoreCall, install, advance, at_anchor, Call, open_store, on_store, Report, advanced, Memory, perform, carry, cold_advance}
-use Rattle.model.specs.Refusals.{Answer, refuse, refusal, conditions, lent_too_short, output_short_of_queue, step}
+use Rattle.model.specs.Store.{Config, Generation, look, get, put, read, on_slot, take, answer, answer_failed, Prepared, StoreCall, install, advance, at_anchor, Call, open_store, on_store, Report, opened, stored, advanced, Memory, perform, carry, cold_advance}
+use Rattle.model.specs.Refusals.{Answer, refuse, ok, refusal_number, refusal, conditions, lent_too_short, output_short_of_queue, step}
 use Rattle.model.proofs.SlotLaws.{split, not_both}
 use Rattle.image.specs.Image.{decode, BytesResult, bytes_step}
 use Rattle.image.specs.Output.{output_after}
-use Rattle.replies.specs.Replies.{OpenReply}
-use Rattle.replies.specs.Replies.{InstallReply}
-use Rattle.replies.specs.Replies.{LookReply}
-use Rattle.replies.specs.Replies.{PutReply}
-use Rattle.replies.specs.Replies.{open_reply, install_reply, look_reply, put_reply, read_reply, answer_reply, alone, with_output, Stepped, Took, AdvancedAs}
+use Rattle.replies.specs.Replies.{TakeReply, AdvanceReply, install_reply, look_reply, read_reply, take_reply, answer_reply, advance_reply, alone, with_output, Stepped, Took, AdvancedAs}
 use Rattle.unchecked_calls.proofs.Turned.{no_store}
-use Rattle.replies.specs.Replies.{ReadReply}
-use Rattle.replies.specs.Replies.{AnswerReply}
-use Rattle.replies.specs.Replies.{TakeReply}
 use Rattle.unchecked_reads.proofs.Said.{turned_down}
-use Rattle.replies.specs.Replies.{AdvanceReply}
-use Rattle.call_answers.specs.declared.CallAnswer.{CallAnswer}
-use Rattle.call_answers.specs.declared.CallAnswer.TheVariants.{Refused}
-use Rattle.call_answers.specs.Answers.{call_answer, take_as, advance_as}
-use Rattle.call_answers.proofs.Lines.{take_means, advance_means}
+use Rattle.replies.specs.declared.Answered.{Answered}
+use Rattle.replies.specs.declared.Installed.{Installed}
+use Rattle.replies.specs.declared.ReadOutcome.{ReadOutcome}
+use Rattle.model.specs.declared.refusal.Refusal.{Refusal}
+use Rattle.model.specs.declared.refusal.Refusal.TheVariants.{NotAStore}
+use Rattle.call_answers.specs.Answers.{CallReply, reply_of}
 use Rattle.call_steps.specs.Steps.{with_lent, SteppedAs}
 
 -- Bytes that are no store.
@@ -81,57 +75,59 @@ module _ (b : List ℕ) (w : ℕ) (e : List ℕ) where
 abbrev pub Silent : Answer → Type 0
 Silent a = (e : List ℕ) → output_after a e ≡ e
 
-pub silent_open : (r : OpenReply) → Silent (open_reply r)
+pub silent_opened : Silent (ok opened)
 unfolding slots_bytes
-silent_open (Err n) e = refl
-silent_open (Ok x) e = refl
+silent_opened e = refl
 
-pub silent_install : (r : InstallReply) → Silent (install_reply r)
+pub silent_installed : (i : Installed) → Silent (install_reply (Ok i))
 unfolding slots_bytes
-silent_install (Err n) e = refl
-silent_install (Ok Same) e = refl
-silent_install (Ok Fresh) e = refl
+silent_installed Same e = refl
+silent_installed Fresh e = refl
 
-pub silent_look : (r : LookReply) → Silent (look_reply r)
+pub silent_looked : (o : Option U256) → Silent (look_reply (Ok o))
 unfolding slots_bytes
-silent_look (Err n) e = refl
-silent_look (Ok None) e = refl
-silent_look (Ok (Some v)) e = refl
+silent_looked None e = refl
+silent_looked (Some v) e = refl
 
-pub silent_put : (r : PutReply) → Silent (put_reply r)
+pub silent_stored : Silent (ok stored)
 unfolding slots_bytes
-silent_put (Err n) e = refl
-silent_put (Ok x) e = refl
+silent_stored e = refl
 
-pub silent_read : (r : ReadReply) → Silent (read_reply r)
+pub silent_read : (o : ReadOutcome) → Silent (read_reply (Ok o))
 unfolding slots_bytes
-silent_read (Err n) e = refl
-silent_read (Ok (Value v)) e = refl
-silent_read (Ok (Waiting n)) e = refl
+silent_read (Value v) e = refl
+silent_read (Waiting n) e = refl
 
-pub silent_answer : (r : AnswerReply) → Silent (answer_reply r)
+pub silent_answered : (r : Answered) → Silent (answer_reply (Ok r))
 unfolding slots_bytes
-silent_answer (Err n) e = refl
-silent_answer (Ok r) e = refl
+silent_answered r e = refl
 
 -- A call by another name.
-pub named_as : {r : CallAnswer} {after out : List ℕ} (b : List ℕ) (w : ℕ) (e : List ℕ) {g c : Call} → g ≡ c → SteppedAs r after out (bytes_step b (with_lent c w e)) e → SteppedAs r after out (bytes_step b (with_lent g w e)) e
+pub named_as : {r : CallReply} {after out : List ℕ} (b : List ℕ) (w : ℕ) (e : List ℕ) {g c : Call} → g ≡ c → SteppedAs r after out (bytes_step b (with_lent c w e)) e → SteppedAs r after out (bytes_step b (with_lent g w e)) e
 named_as {r} {after} {out} b w e q s = subst (λ (x : Call). SteppedAs r after out (bytes_step b (with_lent x w e)) e) (sym q) s
 
 -- A call answered as a call of the store alone.
-pub stepped_as : {r : CallAnswer} {a : Answer} {after : List ℕ} (b : List ℕ) (w : ℕ) (e : List ℕ) {g c : Call} → g ≡ c → Plain c → Silent a → r ≡ call_answer a → Stepped a after (bytes_step b (alone c)) → SteppedAs r after e (bytes_step b (with_lent g w e)) e
+pub stepped_as : {r : CallReply} {a : Answer} {after : List ℕ} (b : List ℕ) (w : ℕ) (e : List ℕ) {g c : Call} → g ≡ c → Plain c → Silent a → reply_of r e ≡ a → Stepped a after (bytes_step b (alone c)) → SteppedAs r after e (bytes_step b (with_lent g w e)) e
 stepped_as {r} {a} {after} b w e {g} {c} n p k q s =
     named_as b w e n
     (subst (λ (o : BytesResult). SteppedAs r after e o e) (sym (as_alone b w e p))
-    (record { answer_is = q ∙ ap call_answer s.answer_is; bytes_is = s.bytes_is; entries_is = sym (k e) ∙ ap (λ (x : Answer). output_after x e) s.answer_is }))
+    (record { answer_is = q ∙ s.answer_is; bytes_is = s.bytes_is; entries_is = sym (k e) ∙ ap (λ (x : Answer). output_after x e) s.answer_is }))
 
 -- A refusal.
-pub refused_as : (n : ℕ) (b e : List ℕ) (o : BytesResult) → o ≡ record { bytes = b; answer = refuse n } → SteppedAs (Refused n) b e o e
-refused_as n b e o q = subst (λ (x : BytesResult). SteppedAs (Refused n) b e x e) (sym q) (record { answer_is = refl; bytes_is = refl; entries_is = refl })
+pub reply_refused : (r : CallReply) (x : Refusal) (out : List ℕ) → IsErrAnd r (λ y. y ≡ x) → reply_of r out ≡ refuse (refusal_number x)
+reply_refused r x out h =
+    let p = err_from_is_err_and r h in
+    ap (λ (t : CallReply). reply_of t out) p.1 ∙ ap (λ (y : Refusal). refuse (refusal_number y)) p.2
+
+pub refused_as : {r : CallReply} (x : Refusal) {after : List ℕ} (b : List ℕ) (w : ℕ) (e : List ℕ) {g c : Call} → g ≡ c → Plain c → IsErrAnd r (λ y. y ≡ x) → Stepped (refuse (refusal_number x)) after (bytes_step b (alone c)) → SteppedAs r after e (bytes_step b (with_lent g w e)) e
+unfolding slots_bytes
+refused_as {r} x b w e n k q s = stepped_as b w e n k (λ z. refl) (reply_refused r x e q) s
 
 -- Bytes that are no store: 20.
-pub said_20 : (b : List ℕ) (c : StoreCall) (w : ℕ) (e : List ℕ) → decode b ≡ None → SteppedAs (Refused 20) b e (bytes_step b (with_lent (on_store c) w e)) e
-said_20 b c w e d = refused_as 20 b e _ (turned_down b None (with_lent (on_store c) w e) d 20 (no_store _ c))
+pub said_20 : (b : List ℕ) (c : StoreCall) (w : ℕ) (e : List ℕ) → decode b ≡ None → SteppedAs (Err NotAStore) b e (bytes_step b (with_lent (on_store c) w e)) e
+said_20 b c w e d =
+    subst (λ (x : BytesResult). SteppedAs (Err NotAStore) b e x e) (sym (turned_down b None (with_lent (on_store c) w e) d 20 (no_store _ c)))
+    (record { answer_is = refl; bytes_is = refl; entries_is = refl })
 
 -- A take and an advance ---------------------------------------------------------------------------------
 
@@ -165,11 +161,10 @@ module _ (child : ReadAnchor) (h : U256) (p : Prepared) where
       (λ y. rw y (is_advanced _ (applied_few cfg.retention child.number p.relevance void_base p.writes [])))))
 
 -- A take, and an advance, answered.
-pub took_as : {r : CallAnswer} {t : TakeReply} {after out : List ℕ} (b : List ℕ) (w : ℕ) (e : List ℕ) (a : ReadAnchor) → r ≡ take_as t → Took t after out e (bytes_step b (with_output (on_store (at_anchor a take)) e)) → SteppedAs r after out (bytes_step b (with_lent (on_store (at_anchor a take)) w e)) e
+pub took_as : {r : CallReply} {t : TakeReply} {after out : List ℕ} (b : List ℕ) (w : ℕ) (e : List ℕ) (a : ReadAnchor) → reply_of r out ≡ take_reply t out → Took t after out e (bytes_step b (with_output (on_store (at_anchor a take)) e)) → SteppedAs r after out (bytes_step b (with_lent (on_store (at_anchor a take)) w e)) e
 took_as {r} {t} {after} {out} b w e a q s =
     let h : Took t after out e (bytes_step b (with_lent (on_store (at_anchor a take)) w e)) = subst (λ (o : BytesResult). Took t after out e o) (sym (as_take b w e a)) s in
-    record { answer_is = q ∙ take_means t out ∙ ap call_answer h.answer_is; bytes_is = h.bytes_is; entries_is = h.output_is }
+    record { answer_is = q ∙ h.answer_is; bytes_is = h.bytes_is; entries_is = h.output_is }
 
-pub advanced_as : {r : CallAnswer} {t : AdvanceReply} {after out : List ℕ} (b : List ℕ) (w : ℕ) (e : List ℕ) (child : ReadAnchor) (h : U256) (p : Prepared) → r ≡ advance_as t → AdvancedAs t after out (bytes_step b (with_lent (on_store (advance child h p)) w e)) e → SteppedAs r after out (bytes_step b (with_lent (on_store (advance child h p)) w e)) e
-advanced_as {t = t} {out = out} b w e child h p q s =
-    record { answer_is = q ∙ advance_means t out ∙ ap call_answer s.answer_is; bytes_is = s.bytes_is; entries_is = s.output_is }
+pub advanced_as : {r : CallReply} {t : AdvanceReply} {after out : List ℕ} (b : List ℕ) (w : ℕ) (e : List ℕ) (child : ReadAnchor) (h : U256) (p : Prepared) → reply_of r out ≡ advance_reply t out → AdvancedAs t after out (bytes_step b (with_lent (on_store (advance child h p)) w e)) e → SteppedAs r after out (bytes_step b (with_lent (on_store (advance child h p)) w e)) e
+advanced_as b w e child h p q s = record { answer_is = q ∙ s.answer_is; bytes_is = s.bytes_is; entries_is = s.output_is }

@@ -7,8 +7,7 @@ use Rattle.call_reader.specs.declared.AnchoredCall.{AnchoredCall}
 use Rattle.call_reader.specs.declared.ListedCall.{ListedCall}
 use Rattle.call_list.specs.Meaning.{default_limits, meaning}
 use Rattle.call_reader.specs.Calls.{call_of, AnchoredWithin, CallWithin}
-use Rattle.call_answers.specs.declared.CallAnswer.{CallAnswer}
-use Rattle.call_answers.specs.Answers.{call_answer}
+use Rattle.call_answers.specs.Answers.{CallReply, reply_of}
 
 -- The lists that a call names stand within the call list.
 pub record AnchoredThere (l : List ℕ) (c : AnchoredCall) : Type 0 where
@@ -28,7 +27,7 @@ abbrev pub with_lent : Call → ℕ → List ℕ → BytesCall
 with_lent c w entries = record { call = c; work_bytes = w; output_entries = length entries / 52 }
 
 -- A call answered, and left the bytes and the output, as a result says.
-pub record SteppedAs (r : CallAnswer) (after entries_after : List ℕ) (o : BytesResult) (entries : List ℕ) : Type 0 where
-  pub answer_is : r ≡ call_answer o.answer
+pub record SteppedAs (r : CallReply) (after entries_after : List ℕ) (o : BytesResult) (entries : List ℕ) : Type 0 where
+  pub answer_is : reply_of r entries_after ≡ o.answer
   pub bytes_is : after ≡ o.bytes
   pub entries_is : entries_after ≡ output_after o.answer entries
