@@ -9,14 +9,11 @@ use borrow.Author.Tests.{leb-true, leb-false, ltb-false, not-true}
 use lib.Dec.{leb, ltb, lit<}
 use lib.ListN.{length, replicate, length-replicate}
 use Rattle.model.specs.Store.{Call}
-use Rattle.model.specs.Refusals.{Answer}
 use Rattle.model.proofs.SlotLaws.{and_left, and_right}
 use Rattle.image.specs.Image.{bytes_step}
-use Rattle.image.specs.Output.{output_after}
 use Rattle.call_list.specs.Listing.{answer_lines}
-use Rattle.call_answers.specs.declared.CallAnswer.{CallAnswer}
-use Rattle.call_answers.specs.Answers.{call_answer, slots_listed}
-use Rattle.call_answers.proofs.Lines.{lines_are, lines_length}
+use Rattle.call_answers.specs.Answers.{CallReply, slots_listed}
+use Rattle.call_answers.proofs.Lines.{slots_told, slots_are, answer_lines_length}
 use Rattle.call_steps.specs.Steps.{with_lent, SteppedAs}
 use Rattle.call_steps.proofs.After.{answer_room}
 use Rattle.call_progress.specs.Progress.{call_lines}
@@ -25,9 +22,8 @@ use Rattle.call_run.specs.Run.{LinesFit, too_short}
 -- The lines of a call fit.
 pub lines_fit_lent : (b : List ℕ) (c : Call) (w : ℕ) (entries : List ℕ) → length (answer_lines (bytes_step b (with_lent c w entries)).answer) ≤ call_lines
 lines_fit_lent b c w entries =
-    let a : Answer = (bytes_step b (with_lent c w entries)).answer in
     let m = answer_room b c w entries in
-    omega (arith, m.few, ap length (lines_are a entries m.fit), lines_length (call_answer a) (output_after a entries))
+    omega (arith, m.few, answer_lines_length (bytes_step b (with_lent c w entries)).answer)
 
 pub lines_fit : LinesFit
 lines_fit b c =
@@ -38,11 +34,11 @@ lines_fit b c =
     (lines_fit_lent b c.call c.work_bytes entries)
 
 -- The slots that a call lists: few, and the entries hold them.
-pub slots_held : (w : ℕ) (entries b : List ℕ) (c : Call) (a : CallAnswer) (after entries_after : List ℕ) → SteppedAs a after entries_after (bytes_step b (with_lent c w entries)) entries
-    → (slots_listed a ≤ 64) × (slots_listed a * 52 ≤ length entries)
-slots_held w entries b c a after entries_after s =
+pub slots_held : (w : ℕ) (entries b : List ℕ) (c : Call) (r : CallReply) (after entries_after : List ℕ) → SteppedAs r after entries_after (bytes_step b (with_lent c w entries)) entries
+    → (slots_listed r ≤ 64) × (slots_listed r * 52 ≤ length entries)
+slots_held w entries b c r after entries_after s =
     let m = answer_room b c w entries in
-    let n : slots_listed a ≡ slots_listed (call_answer (bytes_step b (with_lent c w entries)).answer) = ap slots_listed s.answer_is in
+    let n : slots_listed r ≡ slots_told (bytes_step b (with_lent c w entries)).answer = slots_are r entries_after ∙ ap slots_told s.answer_is in
     (omega (arith, m.few), omega (arith, m.held))
 
 -- Whether the loop goes on, by a room of k bytes.

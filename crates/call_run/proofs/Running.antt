@@ -1,7 +1,7 @@
 -- Runs of calls: no call, one call, a fault, and a run after another. Assumes nothing.
 use Prim.Native.Nat.{ℕ, ◌+◌, ◌/◌, ◌≤◌, ◌<◌}
 use mathlib.Core.Path.{◌≡◌, refl, sym, ap, ap₂, subst, ◌∙◌}
-use mathlib.Core.Bool.{false}
+use mathlib.Core.Bool.{Bool, false}
 use mathlib.Core.List.{List, [], ◌∷◌, ◌++◌, append_assoc, append-nil}
 use native.Mathlib.Omega.{arith}
 use borrow.Author.Tests.{leb-false, le-leb}
@@ -23,11 +23,9 @@ use Rattle.call_laws.proofs.Listing.{bytes_lines, final_none, final_one, final_t
 use Rattle.digits.specs.Written.{Written}
 use Rattle.digits.proofs.Writing.{written_as}
 use Rattle.listing.proofs.Lengths.{refusal_line_length}
-use Rattle.call_answers.specs.declared.CallAnswer.{CallAnswer}
-use Rattle.call_answers.specs.Answers.{lines_of}
-use Rattle.call_answers.proofs.Lines.{lines_are}
+use Rattle.call_answers.specs.Answers.{CallReply, reply_of}
 use Rattle.call_steps.specs.Steps.{with_lent, SteppedAs}
-use Rattle.call_steps.proofs.After.{store_after_is, answer_room}
+use Rattle.call_steps.proofs.After.{store_after_is}
 use Rattle.std.specs.Prelude.{None, is_some}
 use Rattle.reader.specs.declared.Fault.{Fault}
 use Rattle.reader.specs.Answers.{fault_number}
@@ -119,26 +117,24 @@ pub not_ended : (list b out : List ℕ) (t : Progress) → RunAt t list b out �
 not_ended list b out t h go = leb-false (length list) t.next (sym h.ended_is ∙ go)
 
 -- A call.
-pub ran_call : (w : ℕ) (entries list b out : List ℕ) (t : Progress) (after out_after : List ℕ) (r : Progress) (c : ListedCall) (a : CallAnswer) (entries_after : List ℕ)
+pub ran_call : (w : ℕ) (entries list b out : List ℕ) (t : Progress) (after out_after : List ℕ) (r : Progress) (c : ListedCall) (p : CallReply) (entries_after : List ℕ)
     → Bytes list → RunAt t list b out → t.at + call_lines ≤ length out
     → parsed c (drop r.next list) ≡ parse_call (drop t.next list) → (t.next < r.next) × (r.next ≤ length list)
-    → SteppedAs a after entries_after (bytes_step b (with_lent (meaning default_limits c) w entries)) entries
-    → Written t.at (lines_of a entries_after) out out_after r.at
-    → r.known ≡ store_after t.known a → r.ended ≡ leb (length list) r.next → r.fault ≡ None
+    → SteppedAs p after entries_after (bytes_step b (with_lent (meaning default_limits c) w entries)) entries
+    → Written t.at (answer_lines (reply_of p entries_after)) out out_after r.at
+    → r.known ≡ store_after t.known p → r.ended ≡ leb (length list) r.next → r.fault ≡ None
     → RunOn w (length entries / 52) list t b out r after out_after
-ran_call w entries list b out t after out_after r c a entries_after f h room parse on s wr known ended whole =
+ran_call w entries list b out t after out_after r c p entries_after f h room parse on s wr known ended whole =
     let e : ℕ = length entries / 52 in
     let k : Call = meaning default_limits c in
     let o : BytesResult = bytes_step b (with_lent k w entries) in
-    let m = answer_room b k w entries in
     let q : ReadOn c (drop r.next list) (drop t.next list) = parsed_call (drop t.next list) c (drop r.next list) (bytes_drop t.next list f) (sym parse) in
-    let text : lines_of a entries_after ≡ answer_lines o.answer = ap₂ (λ (x : CallAnswer) (y : List ℕ). lines_of x y) s.answer_is s.entries_is ∙ lines_are o.answer entries m.fit in
-    ran_text w e list b out t after out_after r (answer_lines o.answer) r.next (c ∷ []) (written_as wr text) (omega (arith, lines_fit_lent b k w entries))
+    ran_text w e list b out t after out_after r (answer_lines o.answer) r.next (c ∷ []) (written_as wr (ap answer_lines s.answer_is)) (omega (arith, lines_fit_lent b k w entries))
     (call_then (sym parse) on.0 on.1 no_call)
     (reached_next list r whole)
     (s.bytes_is ∙ sym (final_one default_limits w e b c))
     (sym (ap₂ (λ (x y : List ℕ). x ++ y) (lines_one default_limits w e b c) (no_end r whole) ∙ append-nil (answer_lines o.answer)))
-    (known ∙ ap₂ store_after h.known_is s.answer_is ∙ sym (store_after_is b (with_lent k w entries) (q.fits default_limits refl)) ∙ ap (λ (x : List ℕ). is_some (decode x)) (sym s.bytes_is))
+    (known ∙ ap (λ (x : Bool). store_after x p) h.known_is ∙ sym (store_after_is b (with_lent k w entries) p entries_after (q.fits default_limits refl) s.answer_is) ∙ ap (λ (x : List ℕ). is_some (decode x)) (sym s.bytes_is))
     ended
 
 -- A fault, which ends the list.

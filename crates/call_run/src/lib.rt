@@ -13,7 +13,7 @@ use model::refusal::Refusal;
 use reader::{Cursor, Fault, Reader};
 
 // Where a run stopped: the place of the next call, the bytes written and whether the list has ended; or the fault that ended the list, its place and the bytes written.
-#[derive(Clone, Copy)]
+#[derive(Clone, Copy, Debug, PartialEq, Eq)]
 pub enum RunEnd {
     Listed {
         next: Cursor,
@@ -47,9 +47,9 @@ fn run_call(
     let mut from = Reader { list, at: t.next };
     match call_reader::read_call(&mut from) {
         Ok(call) => {
-            let a = call_steps::step(list, call, t.known, s, work, entries, members);
-            let at = call_answers::answer_lines(out, t.at, a, entries);
-            call_progress::after_call(list, t, a, Cursor { at: from.at }, at)
+            let reply = call_steps::step(list, call, t.known, s, work, entries, members);
+            let at = call_answers::answer_lines(out, t.at, reply, entries);
+            call_progress::after_call(list, t, reply, Cursor { at: from.at }, at)
         }
         Err(kind) => {
             let at = listing::refusal_line(out, t.at, u64::from(kind));

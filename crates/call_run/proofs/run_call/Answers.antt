@@ -15,8 +15,8 @@ use Rattle.call_run.proofs.run_call.Goals as goal
 
 pub answer_lines-at-requires : goal.answer_lines-at-requires
 answer_lines-at-requires c =
-    let m = slots_held (length c.args.work.now) c.args.entries.now c.args.s.now _ c.step-a.result _ _ c.step-a.ensures in
-    (omega (arith, m.1, c.step-a.auto.entries), omega (arith, m.0, c.requires.2))
+    let m = slots_held (length c.args.work.now) c.args.entries.now c.args.s.now _ c.step-reply.result _ _ c.step-reply.ensures in
+    (omega (arith, m.1, c.step-reply.auto.entries), omega (arith, m.0, c.requires.2))
 
 pub refusal_line-at-requires : goal.refusal_line-at-requires
 refusal_line-at-requires c = omega (arith, refusal_line_length c.from.result, c.requires.2)
@@ -25,11 +25,11 @@ pub returns-in-Ok-clause-run : goal.returns-in-Ok-clause-run
 returns-in-Ok-clause-run c =
     let a = c.args in
     let h = c.in-Ok.ensures.reading in
-    let q : Progress = called_at a.list.now a.t c.step-a.result c.read_call.new.from.at c.answer_lines-at.result in
+    let q : Progress = called_at a.list.now a.t c.step-reply.result c.read_call.new.from.at c.answer_lines-at.result in
     ran_to {q = q} c.after_call.ensures
-    (ran_call (length a.work.now) a.entries.now a.list.now a.s.now a.out.now a.t _ _ q _ c.step-a.result _
+    (ran_call (length a.work.now) a.entries.now a.list.now a.s.now a.out.now a.t _ _ q _ c.step-reply.result _
     (known_bytes a.list.now c.type_inv.list) c.requires.0 c.requires.2
-    (read_parse h) (c.in-Ok.ensures.progress, read_within h) c.step-a.ensures c.answer_lines-at.ensures refl refl refl)
+    (read_parse h) (c.in-Ok.ensures.progress, read_within h) c.step-reply.ensures c.answer_lines-at.ensures refl refl refl)
 
 pub returns-in-Err-clause-run : goal.returns-in-Err-clause-run
 returns-in-Err-clause-run c =
