@@ -166,27 +166,6 @@ impl<'a> Awaiting<'a> {
     }
 }
 
-// Puts a slot with one waiter, not taken, before awaiting slot i of n.
-fn insert_at(s: &mut [u8], n: usize, i: usize, slot: Slot)
-    requires { (i ≤ n) × ((n + 1) * awaiting_size ≤ length s.old) }
-    ensures { s.new ≡ take (i * awaiting_size) s.old ++ bytes_of (slot_words slot ++ (1 ∷ 0 ∷ 0 ∷ [])) ++ part (i * awaiting_size) ((n - i) * awaiting_size) s.old ++ drop ((n + 1) * awaiting_size) s.old }
-{
-    words::move_up(
-        s,
-        i * layout::AWAITING_SIZE,
-        (n - i) * layout::AWAITING_SIZE,
-        layout::AWAITING_SIZE,
-    );
-    records::write_slot(s, i * layout::AWAITING_SIZE, slot);
-    words::write_u64(s, i * layout::AWAITING_SIZE + layout::WAITERS_OFFSET, 1);
-    words::write_u64(s, i * layout::AWAITING_SIZE + layout::TAKEN_OFFSET, 0);
-    words::write_u64(
-        s,
-        i * layout::AWAITING_SIZE + layout::SECOND_WAITERS_OFFSET,
-        0,
-    );
-}
-
 // An unserved read: the slot joins the queue or, if it awaits already, gains a waiter. The number of awaiting slots then.
 pub fn join(s: &mut [u8], n: usize, slot: Slot) -> usize
     requires { Ready n s.old × (length (reads.join slot (pending_of n s.old)) ≤ 64) }
@@ -200,7 +179,8 @@ pub fn join(s: &mut [u8], n: usize, slot: Slot) -> usize
             n
         }
         Err(i) => {
-            insert_at(s, n, i, slot);
+            // One waiter, not taken.
+            records::insert_entry(s, n, i, slot, [1, 0, 0]);
             n + 1
         }
     }

@@ -18,7 +18,7 @@ use model::storage_memo::U256;
 use records::Found;
 
 // A record: the number of its layer, and its own among all records of the store.
-#[derive(Clone, Copy)]
+#[derive(Clone, Copy, Debug, PartialEq, Eq)]
 pub struct Row {
     pub layer: usize,
     pub row: usize,

@@ -43,13 +43,13 @@ write_u64-requires c =
     let within : c.in-Ok.i < c.args.n = omega (arith, seen.inside, length_pending_of c.args.n c.args.s.now) in
     omega (arith, within, c.requires.0.few, c.requires.0.area)
 
-pub insert_at-requires : goal.insert_at-requires
-insert_at-requires c =
+pub insert_entry-requires : goal.insert_entry-requires
+insert_entry-requires c =
     let gap : AbsentAt c.args.slot (pending_of c.args.n c.args.s.now) c.in-Err.i = absent (pending_of c.args.n c.args.s.now) c.args.slot c.in-Err.i (sym c.find.ensures ∙ search rules) in
     let q = pending_of c.args.n c.args.s.now in
     let f = gap in
     let l = length_pending_of c.args.n c.args.s.now in
-    (omega (arith, f.within), omega (arith, absent_length c.args.slot q _ f, c.requires.1, c.requires.0.area))
+    (omega arith, (omega (arith, f.within), omega (arith, absent_length c.args.slot q _ f, c.requires.1, c.requires.0.area)))
 
 pub returns-in-Ok : goal.returns-in-Ok
 returns-in-Ok c =
@@ -59,4 +59,4 @@ returns-in-Ok c =
 pub returns-in-Err : goal.returns-in-Err
 returns-in-Err c =
     let gap : AbsentAt c.args.slot (pending_of c.args.n c.args.s.now) c.in-Err.i = absent (pending_of c.args.n c.args.s.now) c.args.slot c.in-Err.i (sym c.find.ensures ∙ search rules) in
-    joined_absent c.args.n c.in-Err.i c.args.slot c.args.s.now c.requires.0 gap c.insert_at.ensures
+    joined_absent c.args.n c.in-Err.i c.args.slot c.args.s.now c.requires.0 gap c.insert_entry.ensures
