@@ -156,7 +156,7 @@ impl<'a> BalLists<'a> {
     ghost use Rattle.bal_accounts.specs.Lent.{RoomForWrites, RoomForReads, Walked};
 
     // What the accounts give under the plan: the entries found, those within the caps in the outputs.
-    pub fn seed(self, plan: Plan, writes_out: &mut [u8], reads_out: &mut [u8]) -> Walk
+    pub fn seed_from_accounts(self, plan: Plan, writes_out: &mut [u8], reads_out: &mut [u8]) -> Walk
         requires { RoomForWrites self writes_out.old × RoomForReads self reads_out.old }
         ensures { Walked self.entry plan.entry 0 (length self.entry.accounts.now / 36) start writes_out.old reads_out.old result writes_out.new reads_out.new }
     {

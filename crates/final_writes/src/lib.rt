@@ -97,6 +97,6 @@ pub fn final_writes(
         max_writes,
         max_reads,
     };
-    let w = lists.seed(plan, writes_out, reads_out);
+    let w = lists.seed_from_accounts(plan, writes_out, reads_out);
     Ok(counts_of(w, bal_plan::limit(max_writes), bal_plan::limit(max_reads)))
 }

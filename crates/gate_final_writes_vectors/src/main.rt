@@ -1,11 +1,11 @@
 // Runs final writes on recorded vectors and compares with what the Rust's `seed_from_accounts` answered. tools/finals_vectors.py has the vectors' form.
 #![tactic(auto)]
 
-ghost use Rattle.std.specs.Prelude.{◌+◌, ◌*◌, ◌≤◌, length, IfOk};
+ghost use Rattle.std.specs.Prelude.{◌≤◌, length, IfOk};
 
 use final_writes::FinalWritesReply;
 use std::io::Read;
-use std::{fs, io};
+use std::{array, fs, io};
 
 // What an output holds before a call.
 const BEFORE: u8 = 0xa5;
@@ -13,45 +13,30 @@ const BEFORE: u8 = 0xa5;
 // So many vectors of the file are run at most.
 const MOST: u64 = 100000;
 
-// Number k of a vector's head.
-fn number(head: &[u8], k: usize) -> u64
-    requires { 8 * k + 8 ≤ length head.now }
-{
-    words::read_u64(head, 8 * k)
+// A vector's head, as numbers.
+type Head = [u64; 16];
+
+fn head_of(bytes: &[u8; 128]) -> Head {
+    array::from_fn(|k| words::read_u64(bytes, 8 * k))
 }
 
 // A length of a vector's head. None exceeds 8,192: a longer one is read as 0, and the vector differs.
-fn extent(head: &[u8], k: usize) -> usize
-    requires { 8 * k + 8 ≤ length head.now }
+fn extent(n: u64) -> usize
     ensures { result ≤ 8192 }
 {
-    let n = number(head, k);
     if n <= 8192 { n as usize } else { 0 }
 }
 
-fn cap(head: &[u8], k: usize) -> Option<u64>
-    requires { 8 * k + 16 ≤ length head.now }
-{
-    if number(head, k) == 0 {
-        None
-    } else {
-        Some(number(head, k + 1))
-    }
+// A cap: whether there is one, and its number.
+fn cap(has: u64, n: u64) -> Option<u64> {
+    (has != 0).then_some(n)
 }
 
 // Whether the answer is the recorded one.
-fn same_answer(answer: FinalWritesReply, head: &[u8]) -> bool
-    requires { 128 ≤ length head.now }
-{
+fn same_answer(answer: FinalWritesReply, head: &Head) -> bool {
     match answer {
-        Err(refusal) => number(head, 11) == 0 && number(head, 12) == refusal.number(),
-        Ok(s) => {
-            number(head, 11) == 1
-                && number(head, 12) == s.writes
-                && number(head, 13) == s.reads
-                && number(head, 14) == s.filtered
-                && number(head, 15) == s.capped
-        }
+        Err(refusal) => head[11] == 0 && head[12] == refusal.number(),
+        Ok(s) => head[11..] == [1, s.writes, s.reads, s.filtered, s.capped],
     }
 }
 
@@ -63,53 +48,42 @@ fn holds(out: &[u8], entries: &[u8]) -> bool {
     rest.iter().all(|byte| *byte == BEFORE)
 }
 
-// How many entries a vector records for an output: none where the call is refused.
-fn recorded(head: &[u8], k: usize) -> usize
-    requires { (8 * k + 8 ≤ length head.now) × (96 ≤ length head.now) }
+// How many entries a vector records for an output, of the number that its head has: none where the call is refused.
+fn recorded(head: &Head, n: u64) -> usize
     ensures { result ≤ 8192 }
 {
-    if number(head, 11) == 0 {
-        0
-    } else {
-        extent(head, k)
-    }
+    if head[11] == 0 { 0 } else { extent(n) }
 }
 
 // Where a vector's lists end, and where its writes and its reads do.
-fn lists_end(head: &[u8]) -> usize
-    requires { 128 ≤ length head.now }
+fn lists_end(head: &Head) -> usize
     ensures { result ≤ 40960 }
 {
-    extent(head, 0) + extent(head, 1) + extent(head, 2) + extent(head, 3) + extent(head, 4)
+    extent(head[0]) + extent(head[1]) + extent(head[2]) + extent(head[3]) + extent(head[4])
 }
 
-fn writes_end(head: &[u8]) -> usize
-    requires { 128 ≤ length head.now }
+fn writes_end(head: &Head) -> usize
     ensures { result ≤ 729088 }
 {
-    lists_end(head) + recorded(head, 12) * 84
+    lists_end(head) + recorded(head, head[12]) * 84
 }
 
-fn reads_end(head: &[u8]) -> usize
-    requires { 128 ≤ length head.now }
-{
-    writes_end(head) + recorded(head, 13) * 52
+fn reads_end(head: &Head) -> usize {
+    writes_end(head) + recorded(head, head[13]) * 52
 }
 
 // Whether the call of a vector gets the recorded answer.
-fn answers(head: &[u8], body: &[u8], writes_out: &mut [u8], reads_out: &mut [u8]) -> bool
-    requires { 128 ≤ length head.now }
-{
-    let a = extent(head, 0);
-    let s = a + extent(head, 1);
-    let c = s + extent(head, 2);
-    let r = c + extent(head, 3);
-    let p = r + extent(head, 4);
+fn answers(head: &Head, body: &[u8], writes_out: &mut [u8], reads_out: &mut [u8]) -> bool {
+    let a = extent(head[0]);
+    let s = a + extent(head[1]);
+    let c = s + extent(head[2]);
+    let r = c + extent(head[3]);
+    let p = r + extent(head[4]);
     if body.len() < p {
         return false;
     }
-    let max_writes = cap(head, 7);
-    let max_reads = cap(head, 9);
+    let max_writes = cap(head[7], head[8]);
+    let max_reads = cap(head[9], head[10]);
     let answer = final_writes::final_writes(
         &body[..a],
         &body[a..s],
@@ -125,9 +99,7 @@ fn answers(head: &[u8], body: &[u8], writes_out: &mut [u8], reads_out: &mut [u8]
 }
 
 // Whether the outputs hold the recorded entries.
-fn outputs_hold(head: &[u8], body: &[u8], writes_out: &[u8], reads_out: &[u8]) -> bool
-    requires { 128 ≤ length head.now }
-{
+fn outputs_hold(head: &Head, body: &[u8], writes_out: &[u8], reads_out: &[u8]) -> bool {
     let l = lists_end(head);
     let w = writes_end(head);
     let r = reads_end(head);
@@ -144,12 +116,9 @@ fn outputs_hold(head: &[u8], body: &[u8], writes_out: &[u8], reads_out: &[u8]) -
 }
 
 // One vector: its head, and the bytes after it.
-fn replay(head: &[u8], body: &[u8], writes_out: &mut [u8], reads_out: &mut [u8]) -> bool {
-    if head.len() < 128 {
-        return false;
-    }
-    let w = extent(head, 5);
-    let r = extent(head, 6);
+fn replay(head: &Head, body: &[u8], writes_out: &mut [u8], reads_out: &mut [u8]) -> bool {
+    let w = extent(head[5]);
+    let r = extent(head[6]);
     if writes_out.len() < w {
         return false;
     }
@@ -185,22 +154,15 @@ fn filled(file: &mut impl Read, buf: &mut [u8], n: usize) -> io::Result<bool> {
     Ok(read_full(file, &mut buf[..n])? == n)
 }
 
-// The bytes that follow the head, or 0 where there is no head.
-fn body_size(head: &[u8]) -> usize {
-    if head.len() < 128 {
-        return 0;
-    }
-    reads_end(head)
-}
-
 // Whether the next vector of the file gets what is recorded; none at the file's end.
 fn run_next(file: &mut impl Read) -> io::Result<Option<bool>> {
-    let mut head = [0u8; 4096];
-    if !filled(file, &mut head, 128)? {
+    let mut bytes = [0u8; 128];
+    if !filled(file, &mut bytes, 128)? {
         return Ok(None);
     }
+    let head = head_of(&bytes);
     let mut body = [0u8; 65536];
-    if !filled(file, &mut body, body_size(&head))? {
+    if !filled(file, &mut body, reads_end(&head))? {
         return Ok(Some(false));
     }
     let mut writes_out = [BEFORE; 65536];
@@ -209,7 +171,7 @@ fn run_next(file: &mut impl Read) -> io::Result<Option<bool>> {
 }
 
 // The vectors run, and those that differ.
-#[derive(Clone, Copy)]
+#[derive(Clone, Copy, Debug, PartialEq, Eq)]
 struct Tally {
     run: u64,
     different: u64,

@@ -38,9 +38,9 @@ pub returns : goal.returns
 returns c =
     let a = c.args in
     let alike : counts_differ (lent_lists a.accounts.now a.slots.now a.changes.now a.reads.now) ≡ false = not-true _ (sym c.counts_agree.ensures ∙ c.if-not-counts_agree.false) in
-    let w = c.seed-w.result in
-    let wo' : List ℕ = c.seed-w.new.writes_out in
-    let ro' : List ℕ = c.seed-w.new.reads_out in
+    let w = c.seed_from_accounts-w.result in
+    let wo' : List ℕ = c.seed_from_accounts-w.new.writes_out in
+    let ro' : List ℕ = c.seed_from_accounts-w.new.reads_out in
     subst (λ (x : SeedCounts). Answers (Ok x) wo' ro' (lent_final_writes (plan_of a.plan_addresses.now a.max_writes a.max_reads) (lent_lists a.accounts.now a.slots.now a.changes.now a.reads.now) a.writes_out.now a.reads_out.now) a.writes_out.now a.reads_out.now)
     (sym (c.counts_of.ensures ∙ ap₂ (counts_of w) c.limit.ensures c.limit-2.ensures))
-    (accepted a.accounts.now a.slots.now a.changes.now a.reads.now a.plan_addresses.now a.writes_out.now a.reads_out.now a.max_writes a.max_reads w wo' ro' alike c.if-writes_out-slots.false c.if-reads_out-reads.false (λ j. (c.type_inv.accounts j).fits) (λ j. (c.type_inv.slots j).fits) (λ j. (c.type_inv.changes j).fits) (λ j. (c.type_inv.reads j).fits) (omega arith) (omega arith) c.seed-w.ensures)
+    (accepted a.accounts.now a.slots.now a.changes.now a.reads.now a.plan_addresses.now a.writes_out.now a.reads_out.now a.max_writes a.max_reads w wo' ro' alike c.if-writes_out-slots.false c.if-reads_out-reads.false (λ j. (c.type_inv.accounts j).fits) (λ j. (c.type_inv.slots j).fits) (λ j. (c.type_inv.changes j).fits) (λ j. (c.type_inv.reads j).fits) (omega arith) (omega arith) c.seed_from_accounts-w.ensures)

@@ -1,10 +1,10 @@
--- `bal_accounts::BalLists::seed` meets its contract. Assumes nothing.
+-- `bal_accounts::BalLists::seed_from_accounts` meets its contract. Assumes nothing.
 use mathlib.Core.Path.{◌≡◌}
 use Rattle.bal_plan.specs.Plan.{limit_of}
 use Rattle.bal_plan.specs.Lent.{lent_plan}
 use Rattle.bal_accounts.specs.Walking.{start}
 use Rattle.bal_accounts.proofs.AccountWalk.{no_accounts, more_accounts}
-use Rattle.bal_accounts.proofs.BalLists.seed.Goals as goal
+use Rattle.bal_accounts.proofs.BalLists.seed_from_accounts.Goals as goal
 
 pub loop-i-init : goal.loop-i-init
 loop-i-init c =
