@@ -5,11 +5,12 @@
 ghost use Rattle.std.specs.Prelude.{◌≡◌, ◌≤◌, length};
 ghost use Rattle.call_answers.specs.Answers.{slots_listed};
 
-use call_answers::CallAnswer;
+use call_answers::{CallAnswer, CallReply};
 use listing::AdvanceCounts;
 use model::bal_prefetch::BalSkip;
 use model::delta_snapshot::Slot;
 use model::read_hub::{CarryOutcome, Lineage};
+use model::refusal::Refusal;
 use model::storage_memo::{Address, U256};
 use std::io;
 
@@ -34,40 +35,45 @@ fn compare(
     }
 }
 
-// The same of a call's answer that lists no slots.
-fn answer(rt: &impl Print, name: &[u8], a: CallAnswer, expected: &[u8]) -> io::Result<()>
-    requires { (slots_listed a ≡ 0) × (4 ≤ length expected.now) × (length expected.now ≤ 199) }
+// The same of a call's reply that lists no slots.
+fn reply(rt: &impl Print, name: &[u8], r: CallReply, expected: &[u8]) -> io::Result<()>
+    requires { (slots_listed r ≡ 0) × (4 ≤ length expected.now) × (length expected.now ≤ 199) }
 {
     let mut out = [46u8; 199];
-    let next = call_answers::answer_lines(&mut out, 2, a, &[]);
+    let next = call_answers::answer_lines(&mut out, 2, r, &[]);
     let n = expected.len();
     compare(rt, name, &out[..n], next, expected, n - 2)
 }
 
 // Lines of words alone.
 fn words(rt: &impl Print) -> io::Result<()> {
-    answer(rt, b"open", CallAnswer::Open, b"..open\n..")?;
-    answer(
+    reply(rt, b"open", Ok(CallAnswer::Open), b"..open\n..")?;
+    reply(
         rt,
         b"anchor same",
-        CallAnswer::AnchorSame,
+        Ok(CallAnswer::AnchorSame),
         b"..anchor same\n..",
     )?;
-    answer(
+    reply(
         rt,
         b"anchor fresh",
-        CallAnswer::AnchorFresh,
+        Ok(CallAnswer::AnchorFresh),
         b"..anchor fresh\n..",
     )?;
-    answer(rt, b"none", CallAnswer::Nothing, b"..none\n..")?;
-    answer(rt, b"put", CallAnswer::Put, b"..put\n..")
+    reply(rt, b"none", Ok(CallAnswer::Nothing), b"..none\n..")?;
+    reply(rt, b"put", Ok(CallAnswer::Put), b"..put\n..")
 }
 
 // Lines of a word and numbers.
 fn numbers(rt: &impl Print) -> io::Result<()> {
-    answer(rt, b"no", CallAnswer::Refused(22), b"..no 22\n..")?;
-    answer(rt, b"no, one digit", CallAnswer::Refused(3), b"..no 3\n..")?;
-    answer(rt, b"wait", CallAnswer::Wait(105), b"..wait 105\n..")?;
+    reply(rt, b"no", Err(Refusal::AnotherAnchor), b"..no 22\n..")?;
+    reply(
+        rt,
+        b"no, one digit",
+        Err(Refusal::UnknownForm),
+        b"..no 3\n..",
+    )?;
+    reply(rt, b"wait", Ok(CallAnswer::Wait(105)), b"..wait 105\n..")?;
     let mut take = [46u8; 12];
     let take_end = listing::word_line(&mut take, 2, b"take", &[64]);
     compare(rt, b"take", &take, take_end, b"..take 64\n..", 10)?;
@@ -76,7 +82,7 @@ fn numbers(rt: &impl Print) -> io::Result<()> {
         errors: 3,
         woken: 40,
     };
-    answer(rt, b"answer", answered, b"..answer 12 3 40\n..")
+    reply(rt, b"answer", Ok(answered), b"..answer 12 3 40\n..")
 }
 
 // Lines of an advance.
