@@ -6,6 +6,7 @@ ghost use Rattle.image.specs.Image.{decode};
 ghost use Rattle.checking.specs.Checks.{Sized, parts_in, rules_in};
 
 use model::delta_snapshot::Retention;
+use order::Records;
 
 // All checks of an installed generation but the rules across layers.
 #[tactic(auto, using(crate::proofs::Links::counts_say, crate::proofs::Links::ends_say), unfolding(checking::specs::Checks::parts_right))]
@@ -37,9 +38,12 @@ fn rules_right(s: &[u8]) -> bool
         checking::word(s, 0, layout::RETENTION_INDEX),
         checking::word(s, 0, layout::IDLE_INDEX),
     );
+    let records = Records {
+        bytes: &s[layout::RECORDS_OFFSET..],
+        count: n,
+    };
     rules::cross_rules(
-        &s[layout::RECORDS_OFFSET..],
-        n,
+        records,
         top,
         kept,
         checking::word(s, 0, layout::NUMBER_INDEX),

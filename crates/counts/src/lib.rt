@@ -9,7 +9,7 @@ ghost use Rattle.order.specs.Lent.{all_of, slots_of};
 ghost use Rattle.counts.specs.Counts.{held_in, live_in};
 
 use model::delta_snapshot::Retention;
-use order::Records;
+use order::{Index, Records};
 
 // Both counts.
 #[derive(Clone, Copy, Debug, PartialEq, Eq)]
@@ -26,19 +26,19 @@ pub fn served(least: u64, any: bool, low: u64) -> bool
 }
 
 // Both counts, by the index of the records.
-fn walk(records: Records, retention: Retention, number: u64, ix: &[usize]) -> Counts
-    requires { Ordered (slots_of records) (up_from 0 records.count) ix.now }
-    ensures { (result.held ≡ held_in (all_of records.entry)) × (result.live ≡ live_in retention number (all_of records.entry)) }
+fn walk(index: Index, retention: Retention, number: u64) -> Counts
+    ensures { (result.held ≡ held_in (all_of index.entry.records)) × (result.live ≡ live_in retention number (all_of index.entry.records)) }
 {
+    let records = index.records;
     let least = rules::oldest(retention, number);
     let mut held = 0;
     let mut live = 0;
     let mut any = false;
     let mut low: u64 = 0;
-    for (j, &i) in ix.iter().enumerate() {
+    for (j, &i) in index.numbers.iter().enumerate() {
         any |= records.valued(i);
         low = low.max(records.last_use(i));
-        if records.ends(ix, j) {
+        if index.ends(j) {
             held += usize::from(any);
             live += usize::from(served(least, any, low));
             any = false;
@@ -48,14 +48,17 @@ fn walk(records: Records, retention: Retention, number: u64, ix: &[usize]) -> Co
     Counts { held, live }
 }
 
-// Held and live at `number` of the n records that s begins with.
-pub fn held_and_live(s: &[u8], n: usize, retention: Retention, number: u64) -> Counts
-    requires { (n * record_size ≤ length s.now) × (n ≤ 4096) }
-    ensures { (result.held ≡ held_in (records_of n s.now)) × (result.live ≡ live_in retention number (records_of n s.now)) }
+// Held and live at `number` of some records.
+pub fn held_and_live(records: Records, retention: Retention, number: u64) -> Counts
+    ensures { (result.held ≡ held_in (all_of records.entry)) × (result.live ≡ live_in retention number (all_of records.entry)) }
 {
+    let n = records.count;
     let mut a = [0usize; 4096];
     let mut b = [0usize; 4096];
-    let records = Records { bytes: s, count: n };
     records.order(&mut a[0..n], &mut b[0..n]);
-    walk(records, retention, number, &b[0..n])
+    let index = Index {
+        records,
+        numbers: &b[0..n],
+    };
+    walk(index, retention, number)
 }

@@ -13,7 +13,7 @@ ghost use Rattle.fold.specs.Fold.{folded, dropped_in};
 ghost use Rattle.fold.specs.Stored.{renewed, kept, Stored};
 
 use model::delta_snapshot::Retention;
-use order::Records;
+use order::{Index, Records};
 
 // How many slots a fold left and how many it dropped.
 #[derive(Clone, Copy, Debug, PartialEq, Eq)]
@@ -48,22 +48,23 @@ fn settle(records: Records, i: usize, keep: bool, used: u64, out: &mut [u8], c: 
 }
 
 // The fold, by the index of the records.
-fn walk(records: Records, retention: Retention, number: u64, ix: &[usize], out: &mut [u8]) -> Folded
-    requires { (length ix.now * record_size ≤ length out.old) × Ordered (slots_of records) (up_from 0 records.count) ix.now }
-    ensures { (out.new ≡ with_records (folded retention number (all_of records.entry)) out.old) × (result.left ≡ length (folded retention number (all_of records.entry))) × (result.dropped ≡ dropped_in retention number (all_of records.entry)) }
+fn walk(index: Index, retention: Retention, number: u64, out: &mut [u8]) -> Folded
+    requires { length index.numbers.now * record_size ≤ length out.old }
+    ensures { (out.new ≡ with_records (folded retention number (all_of index.entry.records)) out.old) × (result.left ≡ length (folded retention number (all_of index.entry.records))) × (result.dropped ≡ dropped_in retention number (all_of index.entry.records)) }
 {
+    let records = index.records;
     let least = rules::oldest(retention, number);
     let mut left = 0;
     let mut dropped = 0;
     let mut any = false;
     let mut low: u64 = 0;
     let mut at = 0;
-    for (j, &i) in ix.iter().enumerate() {
+    for (j, &i) in index.numbers.iter().enumerate() {
         let has = records.valued(i);
         any |= has;
         low = low.max(records.last_use(i));
         at = if has { i } else { at };
-        if records.ends(ix, j) {
+        if index.ends(j) {
             left = settle(records, at, counts::served(least, any, low), low, out, left);
             dropped += usize::from(low < least);
             any = false;
@@ -74,14 +75,18 @@ fn walk(records: Records, retention: Retention, number: u64, ix: &[usize], out: 
     Folded { left, dropped }
 }
 
-// The fold of the n records that s begins with (`compact`): writes, at the beginning of the output, the one layer of each slot whose freshest use serves at `number`, with its newest value and that use.
-pub fn compact(s: &[u8], n: usize, retention: Retention, number: u64, out: &mut [u8]) -> Folded
-    requires { (n * record_size ≤ length s.now) × (n * record_size ≤ length out.old) × (n ≤ 4096) }
-    ensures { (out.new ≡ with_records (folded retention number (records_of n s.now)) out.old) × (result.left ≡ length (folded retention number (records_of n s.now))) × (result.dropped ≡ dropped_in retention number (records_of n s.now)) }
+// The fold of some records (`compact`): writes, at the beginning of the output, the one layer of each slot whose freshest use serves at `number`, with its newest value and that use.
+pub fn compact(records: Records, retention: Retention, number: u64, out: &mut [u8]) -> Folded
+    requires { records.count * record_size ≤ length out.old }
+    ensures { (out.new ≡ with_records (folded retention number (all_of records.entry)) out.old) × (result.left ≡ length (folded retention number (all_of records.entry))) × (result.dropped ≡ dropped_in retention number (all_of records.entry)) }
 {
+    let n = records.count;
     let mut a = [0usize; 4096];
     let mut b = [0usize; 4096];
-    let records = Records { bytes: s, count: n };
     records.order(&mut a[0..n], &mut b[0..n]);
-    walk(records, retention, number, &b[0..n], out)
+    let index = Index {
+        records,
+        numbers: &b[0..n],
+    };
+    walk(index, retention, number, out)
 }

@@ -10,7 +10,7 @@ ghost use Rattle.chains.specs.Chains.{place_of};
 ghost use Rattle.rules.specs.Rules.{oldest_use, broken, broken_over, cross_rules};
 
 use model::delta_snapshot::Retention;
-use order::Records;
+use order::{Index, Records};
 
 // The oldest last use that serves: `Retention::serves` says yes from it on (the law `serves_oldest`).
 pub fn oldest(retention: Retention, number: u64) -> u64
@@ -30,22 +30,22 @@ fn breaks(least: u64, number: u64, in_top: bool, has: bool, any: bool, low: u64,
 }
 
 // Whether the rules hold, by the index of the records. The top begins at record `top`.
-fn rules(records: Records, top: usize, retention: Retention, number: u64, ix: &[usize]) -> bool
-    requires { Ordered (slots_of records) (up_from 0 records.count) ix.now }
-    ensures { result ≡ cross_rules retention number top (all_of records.entry) }
+fn rules(index: Index, top: usize, retention: Retention, number: u64) -> bool
+    ensures { result ≡ cross_rules retention number top (all_of index.entry.records) }
 {
+    let records = index.records;
     let least = oldest(retention, number);
     let mut c = 0;
     let mut any = false;
     let mut low: u64 = 0;
     let mut bad = false;
-    for (j, &i) in ix.iter().enumerate() {
+    for (j, &i) in index.numbers.iter().enumerate() {
         let used = records.last_use(i);
         let has = records.valued(i);
         bad |= breaks(least, number, top <= i, has, any, low, used);
         any |= has;
         low = low.max(used);
-        if records.ends(ix, j) {
+        if index.ends(j) {
             c += usize::from(bad);
             any = false;
             low = 0;
@@ -83,7 +83,6 @@ fn breaks_over(
 
 // Whether the rules hold, in one pass over the records by a table of those below: none where it is not found out.
 fn by_table(records: Records, top: usize, retention: Retention, number: u64) -> Option<bool>
-    requires { records.count ≤ 4096 }
     ensures { IfSome result (λ holds. holds ≡ cross_rules retention number top (all_of records.entry)) }
 {
     let least = oldest(retention, number);
@@ -104,22 +103,23 @@ fn by_table(records: Records, top: usize, retention: Retention, number: u64) -> 
 
 // Whether the rules hold, by the index of the records.
 fn by_sort(records: Records, top: usize, retention: Retention, number: u64) -> bool
-    requires { records.count ≤ 4096 }
     ensures { result ≡ cross_rules retention number top (all_of records.entry) }
 {
     let mut a = [0usize; 4096];
     let mut b = [0usize; 4096];
     let n = records.count;
     records.order(&mut a[0..n], &mut b[0..n]);
-    rules(records, top, retention, number, &b[0..n])
+    let index = Index {
+        records,
+        numbers: &b[0..n],
+    };
+    rules(index, top, retention, number)
 }
 
-// Whether the rules hold for the n records that s begins with, the top's from record `top` on. Slots can be chosen so that many share a bucket: then it goes by the sort.
-pub fn cross_rules(s: &[u8], n: usize, top: usize, retention: Retention, number: u64) -> bool
-    requires { (n * record_size ≤ length s.now) × (n ≤ 4096) }
-    ensures { result ≡ cross_rules retention number top (records_of n s.now) }
+// Whether the rules hold for some records, the top's from record `top` on. Slots can be chosen so that many share a bucket: then it goes by the sort.
+pub fn cross_rules(records: Records, top: usize, retention: Retention, number: u64) -> bool
+    ensures { result ≡ cross_rules retention number top (all_of records.entry) }
 {
-    let records = Records { bytes: s, count: n };
     match by_table(records, top, retention, number) {
         Some(holds) => holds,
         None => by_sort(records, top, retention, number),

@@ -8,14 +8,21 @@ use Rattle.layout.specs.Layout.{ends_limit, header_width, records_offset}
 use Rattle.model.specs.declared.delta_snapshot.Retention.{Retention}
 use Rattle.rules.specs.Rules.{cross_rules}
 use Rattle.image.specs.Area.{records_of}
+use Rattle.order.proofs.RecordLaws.{part_bytes}
 use Rattle.check_store.proofs.Links.{parts_counts, rules_law}
 use Rattle.check_store.proofs.rules_right.Goals as goal
 
 pub word-top-requires : goal.word-top-requires
 word-top-requires c = omega (arith, (parts_counts c.args.s.now c.requires.1).depth, c.word-depth.ensures header_width (lit< tt), c.requires.0)
 
-pub cross_rules-requires : goal.cross_rules-requires
-cross_rules-requires c = omega (arith, (parts_counts c.args.s.now c.requires.1).records, c.word-n.ensures header_width (lit< tt), c.requires.0)
+pub invariant_of-records-clause-few : goal.invariant_of-records-clause-few
+invariant_of-records-clause-few c = omega (arith, (parts_counts c.args.s.now c.requires.1).records, c.word-n.ensures header_width (lit< tt), c.requires.0)
+
+pub invariant_of-records-clause-within : goal.invariant_of-records-clause-within
+invariant_of-records-clause-within c = omega (arith, (parts_counts c.args.s.now c.requires.1).records, c.word-n.ensures header_width (lit< tt), c.requires.0)
+
+pub invariant_of-records-clause-are_bytes : goal.invariant_of-records-clause-are_bytes
+invariant_of-records-clause-are_bytes c = part_bytes c.args.s.now c.type_inv.s records_offset (length c.args.s.now - records_offset)
 
 pub returns : goal.returns
 returns c =

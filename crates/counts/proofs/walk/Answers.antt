@@ -7,7 +7,7 @@ use lib.ListN.{length, get_or, drop}
 use Rattle.order.specs.Lent.{all_of, slots_of}
 use Rattle.std.specs.Int.{from_bool}
 use Rattle.order.proofs.RecordLaws.{lent_bytes}
-use Rattle.order.proofs.MergeLaws.{ordered_names, ordered_at}
+use Rattle.order.proofs.MergeLaws.{ordered_at}
 use Rattle.counts.proofs.walk.Goals.{then-ends, else-ends}
 use Rattle.order.proofs.WalkLaws.{walk, turn_last, turn_more, bit_small, walk_end}
 use Rattle.counts.proofs.CountLaws.{Seen, unseen, sees, served, held_say, live_say}
@@ -16,26 +16,26 @@ use Rattle.counts.proofs.walk.Goals as goal
 pub valued-any-requires : goal.valued-any-requires
 valued-any-requires c =
     let a = c.args in
-    ordered_at a.records.count c.loop-j.j (slots_of a.records) a.ix.now c.requires c.loop-j-test.true
+    ordered_at a.index.records.count c.loop-j.j (slots_of a.index.records) a.index.numbers.now a.index.ordered c.loop-j-test.true
 
 pub last_use-requires : goal.last_use-requires
 last_use-requires c =
     let a = c.args in
-    ordered_at a.records.count c.loop-j.j (slots_of a.records) a.ix.now c.requires c.loop-j-test.true
+    ordered_at a.index.records.count c.loop-j.j (slots_of a.index.records) a.index.numbers.now a.index.ordered c.loop-j-test.true
 
 pub ends-requires : goal.ends-requires
 ends-requires c =
     let a = c.args in
-    (ordered_names a.records.count (slots_of a.records) a.ix.now c.requires, c.loop-j-test.true)
+    c.loop-j-test.true
 
 pub loop-j-preserved : goal.loop-j-preserved
 loop-j-preserved c =
     let a = c.args in
     let l = c.loop-j in
     let least = c.oldest-least.result in
-    let ss = slots_of a.records in
-    let ix = a.ix.now in
-    let f = sees (all_of a.records) in
+    let ss = slots_of a.index.records in
+    let ix = a.index.numbers.now in
+    let f = sees (all_of a.index.records) in
     let t : Seen → Bool = λ a. served least a.any a.low in
     let h : l.j < length ix = c.loop-j-test.true in
     let w = walk f unseen (λ a. a.any) ss unseen ix in
@@ -66,18 +66,18 @@ loop-j-preserved c =
 pub returns : goal.returns
 returns c =
     let a = c.args in
-    let rs = all_of a.records in
-    let ss = slots_of a.records in
-    let ix = a.ix.now in
+    let rs = all_of a.index.records in
+    let ss = slots_of a.index.records in
+    let ix = a.index.numbers.now in
     let least = c.oldest-least.result in
     let t : Seen → Bool = λ a. served least a.any a.low in
     let m0 : Seen = record { any = c.loop-j.any; low = c.loop-j.low } in
-    let b = lent_bytes a.records in
+    let b = lent_bytes a.index.records in
     let e : walk (sees rs) unseen (λ a. a.any) ss m0 (drop c.loop-j.j ix) ≡ 0 = walk_end (sees rs) unseen (λ a. a.any) ss ix m0 c.loop-j.j (omega arith) in
     let f : walk (sees rs) unseen t ss m0 (drop c.loop-j.j ix) ≡ 0 = walk_end (sees rs) unseen t ss ix m0 c.loop-j.j (omega arith) in
     let g : c.loop-j.held ≡ walk (sees rs) unseen (λ a. a.any) ss unseen ix = omega arith in
     let h : c.loop-j.live ≡ walk (sees rs) unseen t ss unseen ix = omega arith in (
-      g ∙ held_say a.records.count a.records.bytes.now ix b c.args.records.within c.requires,
+      g ∙ held_say a.index.records.count a.index.records.bytes.now ix b c.args.index.records.within a.index.ordered,
       h ∙ ap (λ (o : ℕ). walk (sees rs) unseen (λ a. served o a.any a.low) ss unseen ix) c.oldest-least.ensures
-          ∙ live_say a.records.count a.records.bytes.now ix b c.args.records.within c.requires a.retention a.number,
+          ∙ live_say a.index.records.count a.index.records.bytes.now ix b c.args.index.records.within a.index.ordered a.retention a.number,
     )

@@ -7,7 +7,7 @@ use lib.Dec.{eqb}
 use lib.ListN.{length, get_or, drop}
 use Rattle.order.specs.Lent.{all_of, slots_of}
 use Rattle.order.proofs.RecordLaws.{lent_bytes}
-use Rattle.order.proofs.MergeLaws.{ordered_names, ordered_at}
+use Rattle.order.proofs.MergeLaws.{ordered_at}
 use Rattle.rules.proofs.rules.Goals.{then-ends, else-ends}
 use Rattle.order.proofs.WalkLaws.{walk, turn_last, turn_more, bit_small, walk_end}
 use Rattle.rules.proofs.RuleLaws.{Met, unmet, meets, rules_say}
@@ -16,25 +16,25 @@ use Rattle.rules.proofs.rules.Goals as goal
 pub last_use-used-requires : goal.last_use-used-requires
 last_use-used-requires c =
     let a = c.args in
-    ordered_at a.records.count c.loop-j.j (slots_of a.records) a.ix.now c.requires c.loop-j-test.true
+    ordered_at a.index.records.count c.loop-j.j (slots_of a.index.records) a.index.numbers.now a.index.ordered c.loop-j-test.true
 
 pub valued-has-requires : goal.valued-has-requires
 valued-has-requires c =
     let a = c.args in
-    ordered_at a.records.count c.loop-j.j (slots_of a.records) a.ix.now c.requires c.loop-j-test.true
+    ordered_at a.index.records.count c.loop-j.j (slots_of a.index.records) a.index.numbers.now a.index.ordered c.loop-j-test.true
 
 pub ends-requires : goal.ends-requires
 ends-requires c =
     let a = c.args in
-    (ordered_names a.records.count (slots_of a.records) a.ix.now c.requires, c.loop-j-test.true)
+    c.loop-j-test.true
 
 pub loop-j-preserved : goal.loop-j-preserved
 loop-j-preserved c =
     let a = c.args in
     let l = c.loop-j in
-    let ss = slots_of a.records in
-    let ix = a.ix.now in
-    let f = meets c.oldest-least.result a.number a.top (all_of a.records) in
+    let ss = slots_of a.index.records in
+    let ix = a.index.numbers.now in
+    let f = meets c.oldest-least.result a.number a.top (all_of a.index.records) in
     let h : l.j < length ix = c.loop-j-test.true in
     let w = walk f unmet (λ m. m.bad) ss unmet ix in
     let m0 : Met = record { any = l.any; low = l.low; bad = l.bad } in
@@ -56,12 +56,12 @@ pub returns : goal.returns
 returns c =
     let a = c.args in
     let least = c.oldest-least.result in
-    let rs = all_of a.records in
-    let ss = slots_of a.records in
-    let ix = a.ix.now in
+    let rs = all_of a.index.records in
+    let ss = slots_of a.index.records in
+    let ix = a.index.numbers.now in
     let f = meets least a.number a.top rs in
     let m0 : Met = record { any = c.loop-j.any; low = c.loop-j.low; bad = c.loop-j.bad } in
     let e : walk f unmet (λ m. m.bad) ss m0 (drop c.loop-j.j ix) ≡ 0 = walk_end f unmet (λ m. m.bad) ss ix m0 c.loop-j.j (omega arith) in
     let g : c.loop-j.c ≡ walk f unmet (λ m. m.bad) ss unmet ix = omega arith in
     ap (λ (k : ℕ). eqb k 0) (g ∙ ap (λ (o : ℕ). walk (meets o a.number a.top rs) unmet (λ m. m.bad) ss unmet ix) c.oldest-least.ensures)
-    ∙ rules_say a.retention a.number a.top a.records.count a.records.bytes.now ix (lent_bytes a.records) c.args.records.within c.requires
+    ∙ rules_say a.retention a.number a.top a.index.records.count a.index.records.bytes.now ix (lent_bytes a.index.records) c.args.index.records.within a.index.ordered
