@@ -2,3 +2,4 @@
 pub mod Turned
 pub mod Said
 pub mod Guards
+pub mod Here

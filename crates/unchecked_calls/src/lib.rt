@@ -1,5 +1,5 @@
 // The calls open, install, look, get and put on bytes that are known to be a store.
-#![tactic(auto)]
+#![tactic(auto, using(image::proofs::Lent::decoded_some, header::proofs::Guards::past_guard))]
 
 ghost use Rattle.std.specs.Prelude.{◌≡◌, true, ◌≤◌, ◌<◌, length, is_some};
 ghost use Rattle.model.specs.Refusals.{store_size};
@@ -8,6 +8,7 @@ ghost use Rattle.model.specs.Store.{on_store, at_anchor, on_slot, open_store};
 ghost use Rattle.image.specs.Image.{decode, bytes_step};
 ghost use Rattle.replies.specs.Replies.{open_reply, install_reply, look_reply, put_reply, alone, Stepped};
 
+use layers::{LentGeneration, LentStore};
 use model::delta_snapshot::{Retention, Slot};
 use model::refusal::Refusal;
 use model::storage_memo::{ReadAnchor, U256};
@@ -27,7 +28,7 @@ pub fn install(s: &mut [u8], anchor: ReadAnchor) -> InstallReply
     requires { is_some (decode s.old) ≡ true }
     ensures { Stepped (install_reply result) s.new (bytes_step s.old (alone (on_store (calls.install anchor)))) }
 {
-    if let Ok(()) = header::guard(s, anchor) {
+    if let Ok(()) = header::guard(LentStore { bytes: s }, anchor) {
         return Ok(Installed::Same);
     }
     header::begin(s, anchor);
@@ -39,8 +40,8 @@ pub fn look(s: &[u8], anchor: ReadAnchor, slot: Slot) -> LookReply
     requires { is_some (decode s.now) ≡ true }
     ensures { Stepped (look_reply result) s.now (bytes_step s.now (alone (on_store (at_anchor anchor (on_slot (calls.look slot)))))) }
 {
-    header::guard(s, anchor)?;
-    let held = layers::resolved(s, slot);
+    header::guard(LentStore { bytes: s }, anchor)?;
+    let held = LentGeneration { bytes: s }.resolved(slot);
     Ok(held)
 }
 
@@ -49,12 +50,13 @@ pub fn get(s: &mut [u8], anchor: ReadAnchor, slot: Slot) -> LookReply
     requires { is_some (decode s.old) ≡ true }
     ensures { Stepped (look_reply result) s.new (bytes_step s.old (alone (on_store (at_anchor anchor (on_slot (calls.get slot)))))) }
 {
-    header::guard(s, anchor)?;
-    let place = layers::top_place(s, slot);
-    let Some(v) = layers::resolved_at(s, place, slot) else {
+    header::guard(LentStore { bytes: s }, anchor)?;
+    let generation = LentGeneration { bytes: s };
+    let place = generation.top_place(slot);
+    let Some(v) = generation.resolved_at(place, slot) else {
         return Ok(None);
     };
-    if !top::has_room(s, place) {
+    if !top::has_room(generation, place) {
         return Err(Refusal::OverCapacity);
     }
     top::touch_top(s, place, slot);
@@ -66,9 +68,10 @@ pub fn put(s: &mut [u8], anchor: ReadAnchor, slot: Slot, value: U256) -> PutRepl
     requires { is_some (decode s.old) ≡ true }
     ensures { Stepped (put_reply result) s.new (bytes_step s.old (alone (on_store (at_anchor anchor (on_slot (calls.put slot value)))))) }
 {
-    header::guard(s, anchor)?;
-    let place = layers::top_place(s, slot);
-    if !top::has_room(s, place) {
+    header::guard(LentStore { bytes: s }, anchor)?;
+    let generation = LentGeneration { bytes: s };
+    let place = generation.top_place(slot);
+    if !top::has_room(generation, place) {
         return Err(Refusal::OverCapacity);
     }
     top::settle_top(s, place, slot, value);
