@@ -8,21 +8,22 @@ ghost use Rattle.model.specs.Entries.{member_of, members_of};
 ghost use Rattle.image.specs.Lent.{store_of, generation_of, Installed as HasGeneration};
 ghost use Rattle.settling.specs.Settling.{adds_one, added as added-by, Settled};
 
+use layers::LentGeneration;
+
 // Whether a member of a lent answer gives a value to a slot that has no record in the top.
-fn is_new(s: &[u8], member: &[u8]) -> bool
-    requires { HasGeneration s.now × (length member.now ≡ 85) }
-    ensures { result ≡ adds_one (member_of member.now) (generation_of s.now).top }
+fn is_new(generation: LentGeneration, member: &[u8]) -> bool
+    requires { length member.now ≡ 85 }
+    ensures { result ≡ adds_one (member_of member.now) (generation_of generation.entry.bytes.now).top }
 {
-    member[52] != 0 && layers::top_place(s, entries::read_slot(member, 0)).is_err()
+    member[52] != 0 && generation.top_place(entries::read_slot(member, 0)).is_err()
 }
 
 // The records that the members of a lent answer to distinct slots add.
-pub fn added(s: &[u8], list: &[u8]) -> usize
-    requires { HasGeneration s.now }
-    ensures { result ≡ added-by (members_of list.now) (generation_of s.now).top }
+pub fn added(generation: LentGeneration, list: &[u8]) -> usize
+    ensures { result ≡ added-by (members_of list.now) (generation_of generation.entry.bytes.now).top }
 {
     list.chunks_exact(85)
-        .filter(|member| is_new(s, member))
+        .filter(|member| is_new(generation, member))
         .count()
 }
 
@@ -36,7 +37,7 @@ fn settle(s: &mut [u8], member: &[u8])
     }
     let slot = entries::read_slot(member, 0);
     let value = entries::read_u256(member, 53);
-    let place = layers::top_place(s, slot);
+    let place = LentGeneration { bytes: s }.top_place(slot);
     top::settle_top(s, place, slot, value);
 }
 
