@@ -20,7 +20,7 @@ use Rattle.model.specs.Entries.{with_slots}
 use Rattle.model.specs.Store.{Config, Generation, Store, chain, with_reads}
 use Rattle.model.specs.Refusals.{store_size}
 use Rattle.words.specs.Parts.{placed}
-use Rattle.image.specs.WellFormed.{all_waiters}
+use Rattle.image.specs.WellFormed.{all_waiters, pending_ok}
 use Rattle.image.specs.Image.{bytes_of, words_of, hash_words, totals_words, all_record_words, all_pending_words, flat_records, layer_ends, padded, config_words, image_words, image, read_totals, overlay}
 use Rattle.image.specs.Area.{pending_of, with_pending}
 use Rattle.image.specs.Lent.{store_of, generation_of, Installed}
@@ -34,7 +34,6 @@ use Rattle.image.proofs.ReadBack.{decode_some, length_image}
 use Rattle.image.proofs.Written.{bytes_append}
 use Rattle.awaiting.specs.Awaiting.{Rising, Ready, Holds, Lists}
 use Rattle.awaiting.proofs.Area.{area_of, area_changed, ready_area}
-use Rattle.awaiting.proofs.Stored.{rising_of}
 use Rattle.totals.specs.Totals.{Small, totals_of, with_totals}
 use Rattle.totals.proofs.Bounds.{small_of}
 use Rattle.totals.proofs.InStore.{store_with_totals}
@@ -326,16 +325,20 @@ module _ (b : List ℕ) (h : Installed b) where
         let z : drop n s ≡ rest = ap (drop n) (m.bytes_are ∙ laid cfg y j b) ∙ drop_at (image (stored cfg y)) rest n (image_size cfg y j) in
         e ∙ ap₂ (λ (i : Config) (w : Generation). overlay (awaited i w q) s) m.config_is m.generation_is ∙ laid cfg x k s ∙ ap (λ (w : List ℕ). image (stored cfg x) ++ w) z ∙ sym (laid cfg x k b)
 
-  -- The awaiting area, of the number n of awaiting slots: what a call over it asks, and what a change of it leaves.
+  -- The awaiting area, of the number n of awaiting slots: what it reads as, and what a look-up asks.
+  module _ (n : ℕ) (p : n ≡ length gen.pending) where
+    pub reads_as : pending_of n (area_lent b) ≡ gen.pending
+    reads_as = ap₂ pending_of p (area_rest b) ∙ (generation_in b h).awaiting
+
+    pub asks_rising : Rising n (area_lent b)
+    asks_rising =
+        let k = generation_in b h in
+        record { room = omega (arith, p, k.facts.few_pending, (store_in b h.is_store).long, ap length (area_rest b), length-drop awaiting_offset b); ok = ap pending_ok reads_as ∙ k.facts.pending_right }
+
+  -- What a change asks, and what it leaves.
   module _ (f : Bytes b) (n : ℕ) (p : n ≡ length gen.pending) where
     pub asks : Ready n (area_lent b)
     asks = subst (λ (i : ℕ). Ready i (area_lent b)) (sym p) (area_ready f).0
-
-    pub asks_rising : Rising n (area_lent b)
-    asks_rising = rising_of n (area_lent b) asks
-
-    pub reads_as : pending_of n (area_lent b) ≡ gen.pending
-    reads_as = ap (λ (i : ℕ). pending_of i (area_lent b)) p ∙ (area_ready f).1
 
     back : (q : List Pending) (ys : List ℕ) → ys ≡ with_pending n q (area_lent b) → put_mid awaiting_offset (length b - awaiting_offset) b ys ≡ take awaiting_offset b ++ with_pending (length gen.pending) q (drop awaiting_offset b)
     back q ys e =

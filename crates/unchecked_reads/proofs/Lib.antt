@@ -4,3 +4,5 @@ pub mod Turned
 pub mod Queue
 pub mod Said
 pub mod Counts
+pub mod Reading
+pub mod Answering

@@ -27,7 +27,7 @@ use Rattle.model.specs.declared.refusal.Refusal.TheVariants.{NamesTwice, Nothing
 use Rattle.header.specs.Header.{anchored_refusal}
 use Rattle.header.proofs.Guards.{stopped}
 use Rattle.unchecked_calls.proofs.Turned.{memory_of, over_by}
-use Rattle.header.proofs.Guards.{Here}
+use Rattle.header.proofs.Guards.{Here, past_guard}
 use Rattle.unchecked_reads.specs.Inner.{reading, awaited, answer_refusal}
 use Rattle.unchecked_reads.proofs.Turned.{twice, nothing_there, other_there, read_here, read_served, read_waits, take_here, take_accepted, answer_here, failed_here, answer_accepted, failed_accepted}
 use Rattle.model.specs.declared.storage_memo.U256.{U256}
@@ -107,12 +107,16 @@ module _ (b : List ℕ) (a : ReadAnchor) (k : AnchoredCall) (n : ℕ) where
       go false d h = by_guard d e m h
 
 -- Past an answer's guard no slot is named twice, and the anchor is installed.
-pub past_answer_guard : (ss : List Slot) (o : Option Generation) (a : ReadAnchor) (x : Unit {0}) → answer_refusal ss o a ≡ Ok x → (has_duplicate ss ≡ false) × (anchored_refusal o a ≡ Ok x)
-past_answer_guard ss o a x q = go (has_duplicate ss) refl q
+pub record Past (ss : List Slot) (b : List ℕ) (a : ReadAnchor) : Type 0 where
+  pub once : has_duplicate ss ≡ false
+  pub here : Here b a
+
+pub past_answer_guard : (ss : List Slot) (b : List ℕ) (a : ReadAnchor) {x : Unit {0}} → IsStore b → answer_refusal ss (store_of b).installed a ≡ Ok x → Past ss b a
+past_answer_guard ss b a {x} e q = go (has_duplicate ss) refl q
   where
-    go : (t : Bool) → has_duplicate ss ≡ t → cond t (Err NamesTwice) (anchored_refusal o a) ≡ Ok x → (has_duplicate ss ≡ false) × (anchored_refusal o a ≡ Ok x)
-    go true e h = absurd (cc)
-    go false e h = (e, h)
+    go : (t : Bool) → has_duplicate ss ≡ t → cond t (Err NamesTwice) (anchored_refusal (store_of b).installed a) ≡ Ok x → Past ss b a
+    go true d h = absurd (cc)
+    go false d h = record { once = d; here = past_guard b a e h }
 
 -- The anchor of a generation is itself.
 hash_same : (k : Option U256) → hash_eqb k k ≡ true
