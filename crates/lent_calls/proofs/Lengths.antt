@@ -1,29 +1,19 @@
 -- The lengths of what is lent. Assumes nothing.
 use Prim.Native.Nat.{ℕ, ◌≤◌, ◌<◌}
 use mathlib.Core.Path.{◌≡◌, sym, ap, ap₂, ◌∙◌}
-use mathlib.Core.Bool.{Bool, true, false, ◌&&◌, ◌||◌, cond}
+use mathlib.Core.Bool.{Bool, true, ◌||◌, cond}
 use mathlib.Core.List.{List}
 use native.Mathlib.Omega.{arith}
-use borrow.Author.Tests.{lt-leb, le-leb, leb-true, lt-ltb, le-ltb, eq-eqb, ne_eqb}
+use borrow.Author.Tests.{leb-true, lt-ltb, le-ltb, eq-eqb, ne_eqb}
 use lib.Dec.{leb, ltb}
 use lib.ListN.{length}
 use Rattle.model.specs.Refusals.{capacity_out_of_range, store_size}
 use Rattle.model.proofs.SlotLaws.{and_left, and_right}
 use Rattle.lent_calls.specs.Arguments.{reply_size, reply_enough, hash_enough, anchored_enough, slot_enough, put_enough, advance_enough, lent_size}
 
--- An argument that is too short, and one that is long enough, before the others.
-pub short : (k n : ℕ) (t : Bool) → n < k → false ≡ (leb k n && t)
-short k n t h = sym (ap (λ (x : Bool). x && t) (lt-leb k n h))
-
-pub long : (k n : ℕ) (t : Bool) {r : Bool} → k ≤ n → r ≡ t → r ≡ (leb k n && t)
-long k n t h e = e ∙ sym (ap (λ (x : Bool). x && t) (le-leb k n h))
-
--- A hash that is empty, and one that is not.
+-- A hash that is not empty.
 module _ (h : List ℕ) where
-  pub empty_fits : length h ≡ 0 → true ≡ hash_enough h
-  empty_fits e = sym (ap (λ (x : Bool). x || leb 32 (length h)) (eq-eqb (length h) 0 e))
-
-  pub full_fits : (length h ≡ 0 → ⊥) → leb 32 (length h) ≡ hash_enough h
+  full_fits : (length h ≡ 0 → ⊥) → leb 32 (length h) ≡ hash_enough h
   full_fits e = sym (ap (λ (x : Bool). x || leb 32 (length h)) (ne_eqb (length h) 0 e))
 
   pub full_long : (length h ≡ 0 → ⊥) → hash_enough h ≡ true → 32 ≤ length h

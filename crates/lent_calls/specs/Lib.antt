@@ -2,5 +2,4 @@
 pub mod Arguments
 pub mod ReplyWords
 pub mod Exported
-pub mod Inner
 pub mod Steps

@@ -6,10 +6,20 @@ use Rattle.model.specs.Slots.{u256_words}
 use Rattle.model.specs.Advance.{DeltaReport, lineage_number, skip_number}
 use Rattle.model.specs.Store.{Generation, Memory, Report, opened, anchor_same, anchor_fresh, advanced, value, no_value, stored, waiting, listed, answered}
 use Rattle.model.specs.Refusals.{Answer, refuse, ok, refusal_number}
+use Rattle.model.specs.declared.refusal.Refusal.{Refusal}
+use Rattle.std.specs.declared.result.Result.{Result}
+use Rattle.replies.specs.declared.Installed.{Installed}
+use Rattle.replies.specs.declared.Installed.TheVariants.{Same, Fresh}
+use Rattle.replies.specs.declared.DeltaReport as replies
+use Rattle.replies.specs.declared.ReadOutcome.{ReadOutcome}
+use Rattle.replies.specs.declared.ReadOutcome.TheVariants.{Value, Waiting}
+use Rattle.replies.specs.declared.Answered.{Answered}
 use Rattle.words.specs.Parts.{placed}
 use Rattle.image.specs.Image.{bytes_of, flag, totals_words}
 use Rattle.call_run.specs.Run.{RunReply}
+use Rattle.call_run.specs.declared.RunEnd.{RunEnd}
 use Rattle.call_run.specs.declared.RunEnd.TheVariants.{Listed, Broken}
+use Rattle.final_writes.specs.declared.SeedCounts.{SeedCounts}
 use Rattle.final_writes.specs.FinalWrites.{FinalWrites, seeded}
 use Rattle.final_writes.specs.FinalWrites as final
 
@@ -31,6 +41,11 @@ with_words ws reply = placed 0 (bytes_of ws) reply
 abbrev pub reply_after : Given → List ℕ → List ℕ
 reply_after (refused_by n) reply = reply
 reply_after (accepted ws) reply = with_words ws reply
+
+-- What a reply gives, by the words of what an accepted call answers.
+abbrev pub reply_given : {T : Type 0} → (T → List ℕ) → Result T Refusal → Given
+reply_given words (Err e) = refused_by (refusal_number e)
+reply_given words (Ok x) = accepted (words x)
 
 -- A call's number, and its reply after it, are what is given.
 pub record Gives (code : ℕ) (replied : List ℕ) (x : Given) (reply : List ℕ) : Type 0 where
@@ -80,12 +95,50 @@ totals_given None = refused_by 20
 totals_given (Some st) = installed_totals st.installed
 
 -- A run: 0 where it stopped for lack of room, 1 at the list's end, 2 at a fault; the place of the next call or of the fault, the bytes written, the fault.
+abbrev pub run_words : RunEnd → List ℕ
+run_words (Listed next written ended) = flag ended ∷ next.at ∷ written ∷ 0 ∷ []
+run_words (Broken n place written) = 2 ∷ place.at ∷ written ∷ n ∷ []
+
 abbrev pub run_given : RunReply → Given
-run_given (Err e) = refused_by (refusal_number e)
-run_given (Ok (Listed next written ended)) = accepted (flag ended ∷ next.at ∷ written ∷ 0 ∷ [])
-run_given (Ok (Broken n place written)) = accepted (2 ∷ place.at ∷ written ∷ n ∷ [])
+run_given r = reply_given run_words r
 
 -- Final writes: their numbers of writes and reads, filtered and capped entries.
 abbrev pub final_given : FinalWrites → Given
 final_given (final.refuse n) = refused_by n
 final_given (seeded s) = accepted (length s.writes ∷ length s.reads ∷ s.filtered ∷ s.capped ∷ [])
+
+-- The words of what an accepted call answers, in the code's terms -----------------------------------------
+
+-- An open's and a put's.
+abbrev pub unit_words : Unit {0} → List ℕ
+unit_words x = []
+
+-- An install's.
+abbrev pub installed_words : Installed → List ℕ
+installed_words Same = 0 ∷ []
+installed_words Fresh = 1 ∷ []
+
+-- An advance's: those of its outcome, and its counts.
+abbrev pub count_words : replies.DeltaReport → List ℕ
+count_words d =
+    d.writes.applied ∷ d.writes.overwritten ∷ d.writes.skipped ∷ d.held ∷ d.live ∷ d.compaction.merged ∷ d.compaction.left ∷ d.compaction.dropped ∷ []
+
+abbrev pub advance_words : replies.DeltaReport → List ℕ
+advance_words d = outcome_words d.outcome ++ count_words d
+
+-- A read's.
+abbrev pub read_words : ReadOutcome → List ℕ
+read_words (Value v) = 1 ∷ u256_words v
+read_words (Waiting n) = 0 ∷ n ∷ 0 ∷ 0 ∷ 0 ∷ []
+
+-- A take's: the slots listed.
+abbrev pub take_words : ℕ → List ℕ
+take_words n = n ∷ []
+
+-- An answer's.
+abbrev pub answered_words : Answered → List ℕ
+answered_words r = r.members ∷ r.errors ∷ r.woken ∷ []
+
+-- Those of final writes.
+abbrev pub seed_words : SeedCounts → List ℕ
+seed_words c = c.writes ∷ c.reads ∷ c.filtered ∷ c.capped ∷ []

@@ -7,27 +7,24 @@ ghost use Rattle.model.specs.Slots.{u256_words};
 ghost use Rattle.model.specs.Contents.{own_value, has_value, value_words};
 ghost use Rattle.model.specs.Entries.{slot_of, u256_at};
 ghost use Rattle.image.specs.Image.{totals_words};
-ghost use Rattle.replies.specs.Replies.{open_reply, install_reply, look_reply, put_reply, delta_report, advance_reply, read_reply, take_reply, answer_reply};
-ghost use Rattle.final_writes.specs.Lent.{final_writes_reply};
 ghost use Rattle.layers.specs.Answers.{row_content};
 ghost use Rattle.header.specs.Header.{lent_anchor};
 ghost use Rattle.lent_calls.specs.Arguments.{reply_size, reply_enough, hash_enough, anchored_enough, slot_enough, put_enough, advance_enough, lent_cap};
-ghost use Rattle.lent_calls.specs.Inner.{count_words};
-ghost use Rattle.lent_calls.specs.ReplyWords.{with_words, delta_words, Gives, code_of, answer_given, run_given, final_given};
+ghost use Rattle.lent_calls.specs.ReplyWords.{with_words, Gives, reply_given, count_words, unit_words, installed_words, advance_words, read_words, take_words, answered_words, run_words, seed_words};
 
-use call_run::{RunEnd, RunReply};
-use final_writes::FinalWritesReply;
+use call_run::RunEnd;
+use final_writes::SeedCounts;
 use model::delta_snapshot::Slot;
 use model::read_hub::{CarryOutcome, ReadTotals};
 use model::refusal::Refusal;
 use model::storage_memo::{ReadAnchor, U256};
-use replies::{
-    AdvanceReply, AnswerReply, Answered, DeltaReport, InstallReply, Installed, LookReply,
-    ReadOutcome, ReadReply, TakeReply,
-};
+use replies::{Answered, DeltaReport, Installed, ReadOutcome};
 
 // The bytes that a lent reply has at least.
 pub const REPLY_SIZE: usize = 96;
+
+// The number of an accepted call.
+const ACCEPTED: u64 = 0;
 
 // The cap that caps nothing.
 pub const UNLIMITED: u64 = 0xffff_ffff_ffff_ffff;
@@ -43,43 +40,28 @@ pub fn reply_enough(reply: &[u8]) -> bool
 pub fn anchored_enough(hash: &[u8], reply: &[u8]) -> bool
     ensures { result ≡ anchored_enough hash.now reply.now }
 {
-    if reply.len() < REPLY_SIZE {
-        return false;
-    }
-    if hash.len() == 0 {
-        return true;
-    }
-    32 <= hash.len()
+    reply_enough(reply) && (hash.len() == 0 || 32 <= hash.len())
 }
 
 // The same with a slot.
 pub fn slot_enough(hash: &[u8], slot: &[u8], reply: &[u8]) -> bool
     ensures { result ≡ slot_enough hash.now slot.now reply.now }
 {
-    if slot.len() < 52 {
-        return false;
-    }
-    anchored_enough(hash, reply)
+    52 <= slot.len() && anchored_enough(hash, reply)
 }
 
 // The same with a slot and a value.
 pub fn put_enough(hash: &[u8], slot: &[u8], value: &[u8], reply: &[u8]) -> bool
     ensures { result ≡ put_enough hash.now slot.now value.now reply.now }
 {
-    if value.len() < 32 {
-        return false;
-    }
-    slot_enough(hash, slot, reply)
+    32 <= value.len() && slot_enough(hash, slot, reply)
 }
 
 // The same with a parent's hash.
 pub fn advance_enough(hash: &[u8], parent_hash: &[u8], reply: &[u8]) -> bool
     ensures { result ≡ advance_enough hash.now parent_hash.now reply.now }
 {
-    if parent_hash.len() < 32 {
-        return false;
-    }
-    anchored_enough(hash, reply)
+    32 <= parent_hash.len() && anchored_enough(hash, reply)
 }
 
 // The anchor of a number and a lent hash.
@@ -126,35 +108,6 @@ fn write_words(reply: &mut [u8], ws: &[u64])
     }
 }
 
-// The number of an open's reply or a put's; they have no words.
-pub fn code(r: Result<(), Refusal>) -> u64
-    ensures of_open { result ≡ code_of (answer_given (open_reply r)) }
-    ensures of_put { result ≡ code_of (answer_given (put_reply r)) }
-{
-    match r {
-        Ok(()) => 0,
-        Err(e) => e.number(),
-    }
-}
-
-// An install's number and word.
-pub fn write_install(reply: &mut [u8], r: InstallReply) -> u64
-    requires { reply_size ≤ length reply.old }
-    ensures { Gives result reply.new (answer_given (install_reply r)) reply.old }
-{
-    match r {
-        Err(refusal) => refusal.number(),
-        Ok(Installed::Same) => {
-            write_words(reply, &[0]);
-            0
-        }
-        Ok(Installed::Fresh) => {
-            write_words(reply, &[1]);
-            0
-        }
-    }
-}
-
 // The words of a value: 1, and its four.
 fn write_value(reply: &mut [u8], v: U256)
     requires { reply_size ≤ length reply.old }
@@ -183,22 +136,23 @@ pub fn write_row(reply: &mut [u8], s: &[u8], row: usize)
     words::place(reply, 8, &v);
 }
 
-// A look's or a get's number and words.
-pub fn write_look(reply: &mut [u8], r: LookReply) -> u64
+// The words of read totals.
+pub fn write_totals(reply: &mut [u8], t: ReadTotals)
     requires { reply_size ≤ length reply.old }
-    ensures { Gives result reply.new (answer_given (look_reply r)) reply.old }
+    ensures { reply.new ≡ with_words (totals_words t) reply.old }
 {
-    match r {
-        Err(refusal) => refusal.number(),
-        Ok(None) => {
-            write_words(reply, &[0, 0, 0, 0, 0]);
-            0
-        }
-        Ok(Some(v)) => {
-            write_value(reply, v);
-            0
-        }
-    }
+    let ws = [
+        t.accepted,
+        t.served,
+        t.waiting,
+        t.valued,
+        t.refused,
+        t.rounds,
+        t.members,
+        t.errors,
+        t.coalesced,
+    ];
+    write_words(reply, &ws);
 }
 
 // An advance's words, by those of its outcome.
@@ -223,152 +177,136 @@ fn write_report(reply: &mut [u8], kind: u64, carried: u64, lineage: u64, skip: u
     write_words(reply, &ws);
 }
 
-// An advance's words.
-fn write_delta(reply: &mut [u8], d: DeltaReport)
-    requires { reply_size ≤ length reply.old }
-    ensures { (out : List ℕ) → reply.new ≡ with_words (delta_words (delta_report d out)) reply.old }
-{
-    let outcome = d.outcome;
-    match outcome {
-        CarryOutcome::AlreadyCurrent => write_report(reply, 0, 0, 0, 0, d),
-        CarryOutcome::Carried(n) => write_report(reply, 1, n, 0, 0, d),
-        CarryOutcome::Cold { lineage, bal } => write_report(
-            reply,
-            2,
-            0,
-            listing::lineage_number(lineage),
-            listing::skip_number(bal),
-            d,
-        ),
+// What an accepted call answers, as words at the beginning of its reply.
+pub trait ReplyWords {
+    ghost words: { Self → List ℕ };
+
+    fn write(self, reply: &mut [u8])
+        requires { reply_size ≤ length reply.old }
+        ensures { reply.new ≡ with_words (words self) reply.old };
+}
+
+// An open's and a put's: none.
+impl ReplyWords for () {
+    ghost words = { unit_words };
+
+    fn write(self, reply: &mut [u8]) {
+        write_words(reply, &[]);
     }
 }
 
-// An advance's number and words.
-pub fn write_advance(reply: &mut [u8], r: AdvanceReply) -> u64
-    requires { reply_size ≤ length reply.old }
-    ensures { (out : List ℕ) → Gives result reply.new (answer_given (advance_reply r out)) reply.old }
-{
-    match r {
-        Err(refusal) => refusal.number(),
-        Ok(d) => {
-            write_delta(reply, d);
-            0
+// An install's.
+impl ReplyWords for Installed {
+    ghost words = { installed_words };
+
+    fn write(self, reply: &mut [u8]) {
+        match self {
+            Installed::Same => write_words(reply, &[0]),
+            Installed::Fresh => write_words(reply, &[1]),
+        }
+    }
+}
+
+// A look's or a get's.
+impl ReplyWords for Option<U256> {
+    ghost words = { value_words };
+
+    fn write(self, reply: &mut [u8]) {
+        match self {
+            None => write_words(reply, &[0, 0, 0, 0, 0]),
+            Some(v) => write_value(reply, v),
+        }
+    }
+}
+
+// An advance's.
+impl ReplyWords for DeltaReport {
+    ghost words = { advance_words };
+
+    fn write(self, reply: &mut [u8]) {
+        let outcome = self.outcome;
+        match outcome {
+            CarryOutcome::AlreadyCurrent => write_report(reply, 0, 0, 0, 0, self),
+            CarryOutcome::Carried(n) => write_report(reply, 1, n, 0, 0, self),
+            CarryOutcome::Cold { lineage, bal } => {
+                write_report(reply, 2, 0, u64::from(lineage), u64::from(bal), self)
+            }
         }
     }
 }
 
 // A read's.
-pub fn write_read(reply: &mut [u8], r: ReadReply) -> u64
-    requires { reply_size ≤ length reply.old }
-    ensures { Gives result reply.new (answer_given (read_reply r)) reply.old }
-{
-    match r {
-        Err(refusal) => refusal.number(),
-        Ok(ReadOutcome::Value(v)) => {
-            write_value(reply, v);
-            0
-        }
-        Ok(ReadOutcome::Waiting(n)) => {
-            write_words(reply, &[0, n, 0, 0, 0]);
-            0
+impl ReplyWords for ReadOutcome {
+    ghost words = { read_words };
+
+    fn write(self, reply: &mut [u8]) {
+        match self {
+            ReadOutcome::Value(v) => write_value(reply, v),
+            ReadOutcome::Waiting(n) => write_words(reply, &[0, n, 0, 0, 0]),
         }
     }
 }
 
-// A take's.
-pub fn write_take(reply: &mut [u8], r: TakeReply) -> u64
-    requires { reply_size ≤ length reply.old }
-    ensures { (out : List ℕ) → Gives result reply.new (answer_given (take_reply r out)) reply.old }
-{
-    match r {
-        Err(refusal) => refusal.number(),
-        Ok(n) => {
-            write_words(reply, &[n]);
-            0
-        }
+// A take's: the slots listed.
+impl ReplyWords for u64 {
+    ghost words = { take_words };
+
+    fn write(self, reply: &mut [u8]) {
+        write_words(reply, &[self]);
     }
 }
 
 // An answer's.
-pub fn write_answer(reply: &mut [u8], r: AnswerReply) -> u64
-    requires { reply_size ≤ length reply.old }
-    ensures { Gives result reply.new (answer_given (answer_reply r)) reply.old }
-{
-    match r {
-        Err(refusal) => refusal.number(),
-        Ok(
-            Answered {
-                members,
-                errors,
-                woken,
-            },
-        ) => {
-            write_words(reply, &[members, errors, woken]);
-            0
-        }
+impl ReplyWords for Answered {
+    ghost words = { answered_words };
+
+    fn write(self, reply: &mut [u8]) {
+        write_words(reply, &[self.members, self.errors, self.woken]);
     }
 }
 
-// The words of read totals.
-pub fn write_totals(reply: &mut [u8], t: ReadTotals)
-    requires { reply_size ≤ length reply.old }
-    ensures { reply.new ≡ with_words (totals_words t) reply.old }
-{
-    let ws = [
-        t.accepted,
-        t.served,
-        t.waiting,
-        t.valued,
-        t.refused,
-        t.rounds,
-        t.members,
-        t.errors,
-        t.coalesced,
-    ];
-    write_words(reply, &ws);
-}
+// A run's.
+impl ReplyWords for RunEnd {
+    ghost words = { run_words };
 
-// A run's number and words.
-pub fn write_run(reply: &mut [u8], r: RunReply) -> u64
-    requires { reply_size ≤ length reply.old }
-    ensures { Gives result reply.new (run_given r) reply.old }
-{
-    match r {
-        Err(refusal) => refusal.number(),
-        Ok(
+    fn write(self, reply: &mut [u8]) {
+        match self {
             RunEnd::Listed {
                 next,
                 written,
                 ended,
-            },
-        ) => {
-            write_words(reply, &[ended as u64, next.at as u64, written as u64, 0]);
-            0
-        }
-        Ok(
+            } => write_words(reply, &[ended as u64, next.at as u64, written as u64, 0]),
             RunEnd::Broken {
                 fault,
                 place,
                 written,
-            },
-        ) => {
-            write_words(reply, &[2, place.at as u64, written as u64, fault]);
-            0
+            } => write_words(reply, &[2, place.at as u64, written as u64, fault]),
         }
     }
 }
 
 // Those of final writes.
-pub fn write_final_writes(reply: &mut [u8], r: FinalWritesReply) -> u64
+impl ReplyWords for SeedCounts {
+    ghost words = { seed_words };
+
+    fn write(self, reply: &mut [u8]) {
+        write_words(
+            reply,
+            &[self.writes, self.reads, self.filtered, self.capped],
+        );
+    }
+}
+
+// A call's number, and the words of an accepted call.
+pub fn write_reply<T: ReplyWords>(reply: &mut [u8], r: Result<T, Refusal>) -> u64
     requires { reply_size ≤ length reply.old }
-    ensures { (wo ro : List ℕ) → Gives result reply.new (final_given (final_writes_reply r wo ro)) reply.old }
+    ensures { Gives result reply.new (reply_given T.words r) reply.old }
 {
     match r {
-        Err(refusal) => refusal.number(),
-        Ok(c) => {
-            let ws = [c.writes, c.reads, c.filtered, c.capped];
-            write_words(reply, &ws);
-            0
+        Err(e) => e.number(),
+        Ok(done) => {
+            done.write(reply);
+            ACCEPTED
         }
     }
 }
