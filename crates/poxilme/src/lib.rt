@@ -13,6 +13,9 @@ ghost use Rattle.lent_calls.specs.ReplyWords.{Gives, totals_given};
 ghost use Rattle.lent_calls.specs.Exported.{lent_final, Keeps, Exported, ExportedOutput, ExportedRun, ExportedFinal};
 ghost use Rattle.lent_calls.specs.Steps.{lent_open, lent_install, lent_slot, lent_put, lent_advance, lent_take, lent_answer, lent_failed, lent_totals};
 
+mod store_calls;
+
+use crate::store_calls::{Checked, StoreCalls, Unchecked};
 use model::delta_snapshot::Retention;
 use model::refusal::Refusal;
 use reader::Cursor;
@@ -58,7 +61,135 @@ pub extern "C" fn poxilme_open(
         return Refusal::UnknownForm.number();
     }
     let retention = Retention::of_words(bounded, idle);
-    lent_calls::code(store::open(s, capacity, max_depth, retention))
+    lent_calls::write_reply(reply, store::open(s, capacity, max_depth, retention))
+}
+
+// An install, by the checked calls or by the unchecked ones; likewise the calls below.
+fn install<C: StoreCalls>(s: &mut [u8], number: u64, hash: &[u8], reply: &mut [u8]) -> u64
+    requires { C.Lent s.old }
+    ensures { Exported result s.new reply.new (lent_install s.old number hash.now reply.old) reply.old × Keeps s.old s.new }
+{
+    if !lent_calls::anchored_enough(hash, reply) {
+        return Refusal::LentTooShort.number();
+    }
+    let anchor = lent_calls::anchor(number, hash);
+    let r = C::install(s, anchor);
+    lent_calls::write_reply(reply, r)
+}
+
+// A put.
+fn put<C: StoreCalls>(
+    s: &mut [u8],
+    number: u64,
+    hash: &[u8],
+    slot: &[u8],
+    value: &[u8],
+    reply: &mut [u8],
+) -> u64
+    requires { C.Lent s.old }
+    ensures { Exported result s.new reply.new (lent_put s.old number hash.now slot.now value.now reply.old) reply.old × Keeps s.old s.new }
+{
+    if !lent_calls::put_enough(hash, slot, value, reply) {
+        return Refusal::LentTooShort.number();
+    }
+    let anchor = lent_calls::anchor(number, hash);
+    let r = C::put(s, anchor, lent_calls::slot(slot), lent_calls::value(value));
+    lent_calls::write_reply(reply, r)
+}
+
+// An advance; number and hash are the child's.
+fn advance<C: StoreCalls>(
+    s: &mut [u8],
+    number: u64,
+    hash: &[u8],
+    parent_hash: &[u8],
+    skip: u64,
+    addresses: &[u8],
+    writes: &[u8],
+    work: &mut [u8],
+    out: &mut [u8],
+    reply: &mut [u8],
+) -> u64
+    requires { C.Lent s.old }
+    ensures { ExportedOutput result s.new reply.new out.new (lent_advance s.old number hash.now parent_hash.now skip addresses.now writes.now work.old out.old reply.old) reply.old out.old × Keeps s.old s.new }
+{
+    if !lent_calls::advance_enough(hash, parent_hash, reply) {
+        return Refusal::LentTooShort.number();
+    }
+    let anchor = lent_calls::anchor(number, hash);
+    let parent = lent_calls::value(parent_hash);
+    let r = C::advance(s, anchor, parent, skip, addresses, writes, work, out);
+    lent_calls::write_reply(reply, r)
+}
+
+// A read.
+fn read<C: StoreCalls>(s: &mut [u8], number: u64, hash: &[u8], slot: &[u8], reply: &mut [u8]) -> u64
+    requires { C.Lent s.old }
+    ensures { Exported result s.new reply.new (lent_slot calls.read s.old number hash.now slot.now reply.old) reply.old × Keeps s.old s.new }
+{
+    if !lent_calls::slot_enough(hash, slot, reply) {
+        return Refusal::LentTooShort.number();
+    }
+    let anchor = lent_calls::anchor(number, hash);
+    let r = C::read(s, anchor, lent_calls::slot(slot));
+    lent_calls::write_reply(reply, r)
+}
+
+// A take.
+fn take<C: StoreCalls>(
+    s: &mut [u8],
+    number: u64,
+    hash: &[u8],
+    out: &mut [u8],
+    reply: &mut [u8],
+) -> u64
+    requires { C.Lent s.old }
+    ensures { ExportedOutput result s.new reply.new out.new (lent_take s.old number hash.now out.old reply.old) reply.old out.old × Keeps s.old s.new }
+{
+    if !lent_calls::anchored_enough(hash, reply) {
+        return Refusal::LentTooShort.number();
+    }
+    let anchor = lent_calls::anchor(number, hash);
+    let r = C::take(s, anchor, out);
+    lent_calls::write_reply(reply, r)
+}
+
+// An answer.
+fn answer<C: StoreCalls>(
+    s: &mut [u8],
+    number: u64,
+    hash: &[u8],
+    members: &[u8],
+    reply: &mut [u8],
+) -> u64
+    requires { C.Lent s.old }
+    ensures { Exported result s.new reply.new (lent_answer s.old number hash.now members.now reply.old) reply.old × Keeps s.old s.new }
+{
+    if !lent_calls::anchored_enough(hash, reply) {
+        return Refusal::LentTooShort.number();
+    }
+    let anchor = lent_calls::anchor(number, hash);
+    let r = C::answer(s, anchor, members);
+    lent_calls::write_reply(reply, r)
+}
+
+// An answer of a round that failed as a whole.
+fn answer_failed<C: StoreCalls>(
+    s: &mut [u8],
+    number: u64,
+    hash: &[u8],
+    slots: &[u8],
+    reply: &mut [u8],
+) -> u64
+    requires { C.Lent s.old }
+    ensures { Exported result s.new reply.new (lent_failed s.old number hash.now slots.now reply.old) reply.old × Keeps s.old s.new }
+{
+    if !lent_calls::anchored_enough(hash, reply) {
+        return Refusal::LentTooShort.number();
+    }
+    let anchor = lent_calls::anchor(number, hash);
+    let r = C::answer_failed(s, anchor, slots);
+    lent_calls::write_reply(reply, r)
 }
 
 // `store::install`.
@@ -66,12 +197,7 @@ pub extern "C" fn poxilme_open(
 pub extern "C" fn poxilme_install(s: &mut [u8], number: u64, hash: &[u8], reply: &mut [u8]) -> u64
     ensures { Exported result s.new reply.new (lent_install s.old number hash.now reply.old) reply.old × Keeps s.old s.new }
 {
-    if !lent_calls::anchored_enough(hash, reply) {
-        return Refusal::LentTooShort.number();
-    }
-    let anchor = lent_calls::anchor(number, hash);
-    let r = store::install(s, anchor);
-    lent_calls::write_install(reply, r)
+    install::<Checked>(s, number, hash, reply)
 }
 
 // `store::look`.
@@ -90,7 +216,7 @@ pub extern "C" fn poxilme_look(
     }
     let anchor = lent_calls::anchor(number, hash);
     let r = store::look(s, anchor, lent_calls::slot(slot));
-    lent_calls::write_look(reply, r)
+    lent_calls::write_reply(reply, r)
 }
 
 // `store::get`.
@@ -109,7 +235,7 @@ pub extern "C" fn poxilme_get(
     }
     let anchor = lent_calls::anchor(number, hash);
     let r = store::get(s, anchor, lent_calls::slot(slot));
-    lent_calls::write_look(reply, r)
+    lent_calls::write_reply(reply, r)
 }
 
 // `store::put`.
@@ -124,12 +250,7 @@ pub extern "C" fn poxilme_put(
 ) -> u64
     ensures { Exported result s.new reply.new (lent_put s.old number hash.now slot.now value.now reply.old) reply.old × Keeps s.old s.new }
 {
-    if !lent_calls::put_enough(hash, slot, value, reply) {
-        return Refusal::LentTooShort.number();
-    }
-    let anchor = lent_calls::anchor(number, hash);
-    let r = store::put(s, anchor, lent_calls::slot(slot), lent_calls::value(value));
-    lent_calls::code(r)
+    put::<Checked>(s, number, hash, slot, value, reply)
 }
 
 // `store::advance`; number and hash are the child's.
@@ -148,13 +269,18 @@ pub extern "C" fn poxilme_advance(
 ) -> u64
     ensures { ExportedOutput result s.new reply.new out.new (lent_advance s.old number hash.now parent_hash.now skip addresses.now writes.now work.old out.old reply.old) reply.old out.old × Keeps s.old s.new }
 {
-    if !lent_calls::advance_enough(hash, parent_hash, reply) {
-        return Refusal::LentTooShort.number();
-    }
-    let anchor = lent_calls::anchor(number, hash);
-    let parent = lent_calls::value(parent_hash);
-    let r = store::advance(s, anchor, parent, skip, addresses, writes, work, out);
-    lent_calls::write_advance(reply, r)
+    advance::<Checked>(
+        s,
+        number,
+        hash,
+        parent_hash,
+        skip,
+        addresses,
+        writes,
+        work,
+        out,
+        reply,
+    )
 }
 
 // `store::read`.
@@ -168,12 +294,7 @@ pub extern "C" fn poxilme_read(
 ) -> u64
     ensures { Exported result s.new reply.new (lent_slot calls.read s.old number hash.now slot.now reply.old) reply.old × Keeps s.old s.new }
 {
-    if !lent_calls::slot_enough(hash, slot, reply) {
-        return Refusal::LentTooShort.number();
-    }
-    let anchor = lent_calls::anchor(number, hash);
-    let r = store::read(s, anchor, lent_calls::slot(slot));
-    lent_calls::write_read(reply, r)
+    read::<Checked>(s, number, hash, slot, reply)
 }
 
 // `store::take`.
@@ -187,12 +308,7 @@ pub extern "C" fn poxilme_take(
 ) -> u64
     ensures { ExportedOutput result s.new reply.new out.new (lent_take s.old number hash.now out.old reply.old) reply.old out.old × Keeps s.old s.new }
 {
-    if !lent_calls::anchored_enough(hash, reply) {
-        return Refusal::LentTooShort.number();
-    }
-    let anchor = lent_calls::anchor(number, hash);
-    let r = store::take(s, anchor, out);
-    lent_calls::write_take(reply, r)
+    take::<Checked>(s, number, hash, out, reply)
 }
 
 // `store::answer`.
@@ -206,12 +322,7 @@ pub extern "C" fn poxilme_answer(
 ) -> u64
     ensures { Exported result s.new reply.new (lent_answer s.old number hash.now members.now reply.old) reply.old × Keeps s.old s.new }
 {
-    if !lent_calls::anchored_enough(hash, reply) {
-        return Refusal::LentTooShort.number();
-    }
-    let anchor = lent_calls::anchor(number, hash);
-    let r = store::answer(s, anchor, members);
-    lent_calls::write_answer(reply, r)
+    answer::<Checked>(s, number, hash, members, reply)
 }
 
 // `store::answer_failed`.
@@ -225,12 +336,7 @@ pub extern "C" fn poxilme_answer_failed(
 ) -> u64
     ensures { Exported result s.new reply.new (lent_failed s.old number hash.now slots.now reply.old) reply.old × Keeps s.old s.new }
 {
-    if !lent_calls::anchored_enough(hash, reply) {
-        return Refusal::LentTooShort.number();
-    }
-    let anchor = lent_calls::anchor(number, hash);
-    let r = store::answer_failed(s, anchor, slots);
-    lent_calls::write_answer(reply, r)
+    answer_failed::<Checked>(s, number, hash, slots, reply)
 }
 
 // The read totals of a store's installed generation, or 21.
@@ -270,12 +376,7 @@ pub extern "C" fn poxilme_install_unchecked(
     requires { is_some (decode s.old) ≡ true }
     ensures { Exported result s.new reply.new (lent_install s.old number hash.now reply.old) reply.old × (is_some (decode s.new) ≡ true) }
 {
-    if !lent_calls::anchored_enough(hash, reply) {
-        return Refusal::LentTooShort.number();
-    }
-    let anchor = lent_calls::anchor(number, hash);
-    let r = unchecked_calls::install(s, anchor);
-    lent_calls::write_install(reply, r)
+    install::<Unchecked>(s, number, hash, reply)
 }
 
 // `poxilme_look`, likewise. The value is copied from its record.
@@ -353,12 +454,7 @@ pub extern "C" fn poxilme_put_unchecked(
     requires { is_some (decode s.old) ≡ true }
     ensures { Exported result s.new reply.new (lent_put s.old number hash.now slot.now value.now reply.old) reply.old × (is_some (decode s.new) ≡ true) }
 {
-    if !lent_calls::put_enough(hash, slot, value, reply) {
-        return Refusal::LentTooShort.number();
-    }
-    let anchor = lent_calls::anchor(number, hash);
-    let r = unchecked_calls::put(s, anchor, lent_calls::slot(slot), lent_calls::value(value));
-    lent_calls::code(r)
+    put::<Unchecked>(s, number, hash, slot, value, reply)
 }
 
 // `poxilme_advance`, likewise.
@@ -378,13 +474,18 @@ pub extern "C" fn poxilme_advance_unchecked(
     requires { is_some (decode s.old) ≡ true }
     ensures { ExportedOutput result s.new reply.new out.new (lent_advance s.old number hash.now parent_hash.now skip addresses.now writes.now work.old out.old reply.old) reply.old out.old × (is_some (decode s.new) ≡ true) }
 {
-    if !lent_calls::advance_enough(hash, parent_hash, reply) {
-        return Refusal::LentTooShort.number();
-    }
-    let anchor = lent_calls::anchor(number, hash);
-    let parent = lent_calls::value(parent_hash);
-    let r = unchecked_advance::advance(s, anchor, parent, skip, addresses, writes, work, out);
-    lent_calls::write_advance(reply, r)
+    advance::<Unchecked>(
+        s,
+        number,
+        hash,
+        parent_hash,
+        skip,
+        addresses,
+        writes,
+        work,
+        out,
+        reply,
+    )
 }
 
 // `poxilme_read`, likewise.
@@ -399,12 +500,7 @@ pub extern "C" fn poxilme_read_unchecked(
     requires { is_some (decode s.old) ≡ true }
     ensures { Exported result s.new reply.new (lent_slot calls.read s.old number hash.now slot.now reply.old) reply.old × (is_some (decode s.new) ≡ true) }
 {
-    if !lent_calls::slot_enough(hash, slot, reply) {
-        return Refusal::LentTooShort.number();
-    }
-    let anchor = lent_calls::anchor(number, hash);
-    let r = unchecked_reads::read(s, anchor, lent_calls::slot(slot));
-    lent_calls::write_read(reply, r)
+    read::<Unchecked>(s, number, hash, slot, reply)
 }
 
 // `poxilme_take`, likewise.
@@ -419,12 +515,7 @@ pub extern "C" fn poxilme_take_unchecked(
     requires { is_some (decode s.old) ≡ true }
     ensures { ExportedOutput result s.new reply.new out.new (lent_take s.old number hash.now out.old reply.old) reply.old out.old × (is_some (decode s.new) ≡ true) }
 {
-    if !lent_calls::anchored_enough(hash, reply) {
-        return Refusal::LentTooShort.number();
-    }
-    let anchor = lent_calls::anchor(number, hash);
-    let r = unchecked_reads::take(s, anchor, out);
-    lent_calls::write_take(reply, r)
+    take::<Unchecked>(s, number, hash, out, reply)
 }
 
 // `poxilme_answer`, likewise.
@@ -439,15 +530,7 @@ pub extern "C" fn poxilme_answer_unchecked(
     requires { is_some (decode s.old) ≡ true }
     ensures { Exported result s.new reply.new (lent_answer s.old number hash.now members.now reply.old) reply.old × (is_some (decode s.new) ≡ true) }
 {
-    if !lent_calls::anchored_enough(hash, reply) {
-        return Refusal::LentTooShort.number();
-    }
-    if !awaiting::flags_known(members) {
-        return Refusal::UnknownForm.number();
-    }
-    let anchor = lent_calls::anchor(number, hash);
-    let r = unchecked_reads::answer(s, anchor, members);
-    lent_calls::write_answer(reply, r)
+    answer::<Unchecked>(s, number, hash, members, reply)
 }
 
 // `poxilme_answer_failed`, likewise.
@@ -462,12 +545,7 @@ pub extern "C" fn poxilme_answer_failed_unchecked(
     requires { is_some (decode s.old) ≡ true }
     ensures { Exported result s.new reply.new (lent_failed s.old number hash.now slots.now reply.old) reply.old × (is_some (decode s.new) ≡ true) }
 {
-    if !lent_calls::anchored_enough(hash, reply) {
-        return Refusal::LentTooShort.number();
-    }
-    let anchor = lent_calls::anchor(number, hash);
-    let r = unchecked_reads::answer_failed(s, anchor, slots);
-    lent_calls::write_answer(reply, r)
+    answer_failed::<Unchecked>(s, number, hash, slots, reply)
 }
 
 // `poxilme_read_totals`, likewise.
@@ -500,7 +578,7 @@ pub extern "C" fn poxilme_run(
         return Refusal::LentTooShort.number();
     }
     let r = call_run::run(list, Cursor { at: from }, s, work, entries, members, out);
-    lent_calls::write_run(reply, r)
+    lent_calls::write_reply(reply, r)
 }
 
 // `final_writes::final_writes`; a cap of 2^64 − 1 is none.
@@ -535,5 +613,5 @@ pub extern "C" fn poxilme_final_writes(
         writes_out,
         reads_out,
     );
-    lent_calls::write_final_writes(reply, r)
+    lent_calls::write_reply(reply, r)
 }

@@ -2,6 +2,7 @@
 use Rattle.bal_plan.specs.Plan.{plan_of}
 use Rattle.std.specs.Prelude.{ℕ, Option}
 use Rattle.final_writes.specs.Lent.{lent_lists, lent_final_writes}
+use Rattle.lent_calls.proofs.Giving.{given_by, seed_given}
 use Rattle.lent_calls.proofs.Joining.{unfit, fit, short_final, exported_final, answers_as}
 use Rattle.lent_calls.specs.Arguments.{reply_size, reply_enough}
 use borrow.Author.Tests.{leb-true}
@@ -14,8 +15,8 @@ returns-then-not-reply_enough c =
     let a = c.args in
     rw c.number.ensures (short_final a.reply.now a.writes_out.now a.reads_out.now _ {fits = reply_enough a.reply.now} (unfit c.reply_enough.ensures c.if-not-reply_enough.true))
 
-pub write_final_writes-requires : goal.write_final_writes-requires
-write_final_writes-requires c =
+pub write_reply-requires : goal.write_reply-requires
+write_reply-requires c =
     let a = c.args in
     leb-true reply_size (length a.reply.now) (fit c.reply_enough.ensures c.if-not-reply_enough.false)
 
@@ -24,4 +25,4 @@ returns c =
     let a = c.args in
     let k = c.final_writes-r in
     let e = ap₂ (λ (m r : Option ℕ). lent_final_writes (plan_of a.plan_addresses.now m r) (lent_lists a.accounts.now a.slots.now a.changes.now a.reads.now) a.writes_out.now a.reads_out.now) c.cap-most_writes.ensures c.cap-most_reads.ensures in
-    exported_final a.reply.now a.writes_out.now a.reads_out.now _ {fits = reply_enough a.reply.now} (fit c.reply_enough.ensures c.if-not-reply_enough.false) k.result (answers_as e k.ensures) (c.write_final_writes.ensures _ _)
+    exported_final a.reply.now a.writes_out.now a.reads_out.now _ {fits = reply_enough a.reply.now} (fit c.reply_enough.ensures c.if-not-reply_enough.false) k.result (answers_as e k.ensures) (given_by (seed_given k.result _ _) c.write_reply.ensures)

@@ -2,6 +2,7 @@
 use Rattle.header.proofs.Segments.{known_bytes}
 use Rattle.image.proofs.EntriesFit.{slot_of_fits}
 use Rattle.image.specs.Image.{bytes_step}
+use Rattle.lent_calls.proofs.Giving.{given_by, look_given}
 use Rattle.lent_calls.proofs.Joining.{unfit, fit, short_exported, exported, stepped_as}
 use Rattle.lent_calls.proofs.Kept.{keeps}
 use Rattle.lent_calls.proofs.Lengths.{anchored_hash, slot_long, slot_anchored, anchored_reply}
@@ -30,8 +31,8 @@ slot-requires c =
     let a = c.args in
     slot_long a.hash.now a.reply.now a.slot.now (fit c.slot_enough.ensures c.if-not-slot_enough.false)
 
-pub write_look-requires : goal.write_look-requires
-write_look-requires c =
+pub write_reply-requires : goal.write_reply-requires
+write_reply-requires c =
     let a = c.args in
     anchored_reply a.hash.now a.reply.now (slot_anchored a.hash.now a.reply.now a.slot.now (fit c.slot_enough.ensures c.if-not-slot_enough.false))
 
@@ -39,6 +40,6 @@ pub returns : goal.returns
 returns c =
     let a = c.args in
     let st = stepped_as (ap₂ (λ (x : ReadAnchor) (y : Slot). bytes_step a.s.now (alone (on_store (at_anchor x (on_slot (get y)))))) c.anchor-anchor.ensures c.slot.ensures) c.get-r.ensures in (
-      exported a.s.now a.reply.now _ {fits = slot_enough a.hash.now a.slot.now a.reply.now} (fit c.slot_enough.ensures c.if-not-slot_enough.false) c.write_look.ensures st,
+      exported a.s.now a.reply.now _ {fits = slot_enough a.hash.now a.slot.now a.reply.now} (fit c.slot_enough.ensures c.if-not-slot_enough.false) (given_by (look_given c.get-r.result) c.write_reply.ensures) st,
       keeps a.s.now (alone (on_store (at_anchor (lent_anchor a.number a.hash.now) (on_slot (get (slot_of a.slot.now)))))) (slot_of_fits a.slot.now (known_bytes a.slot.now c.type_inv.slot)) st.bytes_is,
     )

@@ -1,5 +1,6 @@
 -- `poxilme::poxilme_look` meets its contract: 9, or what `store::look` does. Assumes nothing.
 use Rattle.image.specs.Image.{bytes_step}
+use Rattle.lent_calls.proofs.Giving.{given_by, look_given}
 use Rattle.lent_calls.proofs.Joining.{unfit, fit, short_exported, exported, stepped_as}
 use Rattle.lent_calls.proofs.Lengths.{anchored_hash, slot_long, slot_anchored, anchored_reply}
 use Rattle.lent_calls.specs.Arguments.{slot_enough}
@@ -25,8 +26,8 @@ slot-requires c =
     let a = c.args in
     slot_long a.hash.now a.reply.now a.slot.now (fit c.slot_enough.ensures c.if-not-slot_enough.false)
 
-pub write_look-requires : goal.write_look-requires
-write_look-requires c =
+pub write_reply-requires : goal.write_reply-requires
+write_reply-requires c =
     let a = c.args in
     anchored_reply a.hash.now a.reply.now (slot_anchored a.hash.now a.reply.now a.slot.now (fit c.slot_enough.ensures c.if-not-slot_enough.false))
 
@@ -34,4 +35,4 @@ pub returns : goal.returns
 returns c =
     let a = c.args in
     let st = stepped_as (ap₂ (λ (x : ReadAnchor) (y : Slot). bytes_step a.s.now (alone (on_store (at_anchor x (on_slot (look y)))))) c.anchor-anchor.ensures c.slot.ensures) c.look-r.ensures in
-    exported a.s.now a.reply.now _ {fits = slot_enough a.hash.now a.slot.now a.reply.now} (fit c.slot_enough.ensures c.if-not-slot_enough.false) c.write_look.ensures st
+    exported a.s.now a.reply.now _ {fits = slot_enough a.hash.now a.slot.now a.reply.now} (fit c.slot_enough.ensures c.if-not-slot_enough.false) (given_by (look_given c.look-r.result) c.write_reply.ensures) st

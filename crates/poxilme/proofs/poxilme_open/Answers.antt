@@ -3,7 +3,7 @@ use Rattle.image.specs.Image.{bytes_step}
 use Rattle.lent_calls.proofs.Kept.{keeps}
 use Rattle.lent_calls.proofs.Numbered.{opened_store}
 use Rattle.lent_calls.proofs.Ranges.{lent_retention_fits}
-use Rattle.lent_calls.proofs.Giving.{refused_gives, open_gives}
+use Rattle.lent_calls.proofs.Giving.{refused_gives, given_by, open_given}
 use Rattle.lent_calls.proofs.Joining.{unfit, fit, short_exported, exported, stepped_as, form_unknown, form_known}
 use Rattle.lent_calls.specs.Arguments.{lent_retention}
 use Rattle.lent_calls.specs.ReplyWords.{code_of, answer_given}
@@ -34,9 +34,10 @@ returns c =
     let o = bytes_step a.s.now (alone (open_store a.capacity a.max_depth R)) in
     let e = ap (λ (x : Retention). bytes_step a.s.now (alone (open_store a.capacity a.max_depth x))) c.of_words-retention.ensures in
     let plain = stepped_as e c.«open».ensures in
-    let st = stepped_as (sym (form_known a.bounded a.s.now o (omega arith))) plain in (
-      exported a.s.now a.reply.now _ (fit c.reply_enough.ensures c.if-not-reply_enough.false) (open_gives c.«open».result c.code.ensures.of_open) st,
+    let st = stepped_as (sym (form_known a.bounded a.s.now o (omega arith))) plain in
+    let gives = given_by (open_given c.«open».result) c.write_reply.ensures in (
+      exported a.s.now a.reply.now _ (fit c.reply_enough.ensures c.if-not-reply_enough.false) gives st,
       λ z. opened_store a.s.now a.capacity a.max_depth R (lent_retention_fits a.bounded a.idle (omega arith)) plain.bytes_is
-          (sym (ap (λ (x : Answer). code_of (answer_given x)) plain.answer_is) ∙ sym c.code.ensures.of_open ∙ z),
+          (sym (ap (λ (x : Answer). code_of (answer_given x)) plain.answer_is) ∙ sym gives.code_is ∙ z),
       keeps a.s.now (alone (open_store a.capacity a.max_depth R)) (lent_retention_fits a.bounded a.idle (omega arith)) plain.bytes_is,
     )

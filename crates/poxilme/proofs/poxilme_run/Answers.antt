@@ -13,8 +13,8 @@ returns-then-not-reply_enough c =
     let a = c.args in
     rw c.number.ensures (short_run (length a.work.now) (length a.entries.now / 52) a.list.now a.from a.members.now a.s.now a.out.now a.reply.now {fits = reply_enough a.reply.now} (unfit c.reply_enough.ensures c.if-not-reply_enough.true), λ e. e)
 
-pub write_run-requires : goal.write_run-requires
-write_run-requires c =
+pub write_reply-requires : goal.write_reply-requires
+write_reply-requires c =
     let a = c.args in
     leb-true reply_size (length a.reply.now) (fit c.reply_enough.ensures c.if-not-reply_enough.false)
 
@@ -22,6 +22,6 @@ pub returns : goal.returns
 returns c =
     let a = c.args in
     let k = c.run-r in (
-      exported_run (length a.work.now) (length a.entries.now / 52) a.list.now a.from a.members.now a.s.now a.out.now a.reply.now {fits = reply_enough a.reply.now} (fit c.reply_enough.ensures c.if-not-reply_enough.false) k.new.s k.new.out k.result k.ensures c.write_run.ensures,
+      exported_run (length a.work.now) (length a.entries.now / 52) a.list.now a.from a.members.now a.s.now a.out.now a.reply.now {fits = reply_enough a.reply.now} (fit c.reply_enough.ensures c.if-not-reply_enough.false) k.new.s k.new.out k.result k.ensures c.write_reply.ensures,
       run_keeps (length a.work.now) (length a.entries.now / 52) a.list.now (known_bytes a.list.now c.type_inv.list) k.result a.from a.members.now a.s.now a.out.now k.new.s k.new.out k.ensures,
     )
