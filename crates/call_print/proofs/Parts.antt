@@ -59,12 +59,6 @@ module _ (w e : ℕ) (list : List ℕ) (from : ℕ) (members before out after ou
         within = omega (arith, u.written_within, u.same_length);
       }
 
-  -- A run is not refused where the areas are long enough.
-  pub part_refused : (n : Refusal) (p : Part) → r ≡ Err n → too_short list members out ≡ false → PartAs p w e list from before out after out_after
-  part_refused n p q g =
-      let k : RanAs (Err n) w e list from members before out after out_after = subst (λ (x : RunReply). RanAs x w e list from members before out after out_after) q h in
-      absurd (true≢false (sym k.1 ∙ g))
-
 -- What is left of a list of n bytes from a next place on, and that it falls.
 abbrev pub left : ℕ → Option ℕ → ℕ
 left n None = 0

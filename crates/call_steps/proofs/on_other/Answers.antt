@@ -1,17 +1,11 @@
 -- `call_steps::on_other` meets its contract: an open, or 20. Assumes nothing.
 use mathlib.Core.Path.{◌≡◌, ap}
 use Rattle.call_list.specs.Meaning.{default_limits}
-use Rattle.call_reader.specs.declared.ListedCall.TheVariants.{OpenDefault, OpenWith}
+use Rattle.call_reader.specs.declared.ListedCall.TheVariants.{OpenWith}
 use Rattle.call_steps.specs.Steps.{meant}
 use Rattle.call_steps.proofs.Said.{named_as, said_20}
 use borrow.Author.Rules.{rules}
 use Rattle.call_steps.proofs.on_other.Goals as goal
-
-pub returns-in-OpenDefault : goal.returns-in-OpenDefault
-returns-in-OpenDefault c l w e =
-    let a = c.args in
-    let q : a.call ≡ OpenDefault c.in-OpenDefault.capacity = search rules in
-    named_as a.s.now w e (ap (meant l) q) (c.open_default.ensures w e)
 
 pub returns-in-OpenWith : goal.returns-in-OpenWith
 returns-in-OpenWith c l w e =
