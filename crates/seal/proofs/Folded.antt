@@ -22,7 +22,7 @@ use Rattle.image.specs.Area.{with_records}
 use Rattle.image.specs.Lent.{store_of, generation_of, Installed}
 use Rattle.image.proofs.Words.{length_bytes_of}
 use Rattle.image.proofs.Entries.{length_records}
-use Rattle.image.proofs.Areas.{word, words_append, GenerationBytes}
+use Rattle.image.proofs.Areas.{word, words_append}
 use Rattle.image.proofs.Lent.{generation_in}
 use Rattle.image.proofs.Written.{bytes_append}
 use Rattle.header.proofs.Segments.{zero_bytes}
@@ -45,14 +45,6 @@ top_part b f h =
     let t : Layer = (generation_of b).top in
     let d : List ℕ = drop (records_offset + record_size * record_count (generation_of b).base) b in
     ap (take (record_size * length t)) (sym (top_exact b (store_of b) (generation_of b) f h.is_store h.installs)) ∙ take_at (bytes_in t) (drop (record_size * length t) d) (record_size * length t) (length_in t)
-
--- The records of base and top are within the capacity.
-pub all_fit : (s : List ℕ) (x n capacity : ℕ) → Installed s → x ≡ record_count (generation_of s).base → n ≡ length (generation_of s).top → capacity ≡ word capacity_offset s → x + n ≤ capacity
-unfolding record_count
-all_fit s x n capacity h ex en ec =
-    let w : GenerationBytes s (store_of s) (generation_of s) = generation_in s h in
-    let few : length (generation_of s).top + record_count (generation_of s).base ≤ (store_of s).config.capacity = w.facts.few_records in
-    omega (arith, w.store.capacity_word)
 
 -- The top placed behind `left` records, in the steps that the code takes.
 pub topped_by : (s w : List ℕ) (left x n capacity : ℕ) {t u : List ℕ} → Bytes s → Installed s → x ≡ record_count (generation_of s).base → n ≡ length (generation_of s).top → capacity ≡ word capacity_offset s

@@ -74,15 +74,15 @@ header_empty cfg a x =
 -- Writing it ------------------------------------------------------------------------------------------
 
 -- Zeros over the header, what the open set, then the anchor.
-pub header_written : (cfg : Config) (a : ReadAnchor) (p ws w t u v : List ℕ) → p ≡ bytes_of (config_words cfg) → ws ≡ hash_words a.hash
-    → t ≡ placed 0 (replicate records_offset 0) w → u ≡ placed 0 p t → v ≡ placed installed_offset (bytes_of (1 ∷ a.number ∷ ws)) u → v ≡ bytes_of (header_words cfg a 0 0 []) ++ drop records_offset w
-header_written cfg a p ws w t u v q g e f r =
+pub header_written : (cfg : Config) (a : ReadAnchor) (p w t u v : List ℕ) → p ≡ bytes_of (config_words cfg)
+    → t ≡ placed 0 (replicate records_offset 0) w → u ≡ placed 0 p t → v ≡ placed installed_offset (anchor_bytes a) u → v ≡ bytes_of (header_words cfg a 0 0 []) ++ drop records_offset w
+header_written cfg a p w t u v q e f r =
     let c : List ℕ = bytes_of (config_words cfg) in
     let x : List ℕ = drop records_offset w in
     let one : t ≡ replicate records_offset 0 ++ x = e ∙ ap (λ (k : ℕ). replicate {A = ℕ} records_offset 0 ++ drop k w) (length-replicate {A = ℕ} records_offset 0) in
     let two : u ≡ c ++ (replicate (records_offset - installed_offset) 0 ++ x) =
     f ∙ ap₂ (λ (k l : List ℕ). placed 0 k l) q one ∙ placed_zeros [] c x 0 records_offset refl (omega (arith, length_config cfg)) ∙ ap (λ (k : ℕ). c ++ (replicate (records_offset - k) 0 ++ x)) (length_config cfg) in
-    r ∙ ap₂ (λ (k l : List ℕ). placed installed_offset (bytes_of (1 ∷ a.number ∷ k)) l) g two
+    r ∙ ap (placed installed_offset (anchor_bytes a)) two
     ∙ placed_zeros c (anchor_bytes a) x installed_offset (records_offset - installed_offset) (length_config cfg) (omega (arith, length_anchor a))
     ∙ ap (λ (k : ℕ). c ++ (anchor_bytes a ++ (replicate (records_offset - installed_offset - k) 0 ++ x))) (length_anchor a)
     ∙ sym (header_empty cfg a x)

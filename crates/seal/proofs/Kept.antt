@@ -143,12 +143,15 @@ kept_flat t ([] ∷ []) = refl
 kept_flat t ([] ∷ (l ∷ ls)) = refl
 kept_flat t ((r ∷ l) ∷ ls) = refl
 
-pub kept_few : (b : List Layer) → length (kept b) ≤ length b
+kept_few : (b : List Layer) → length (kept b) ≤ length b
 unfolding is_void
 kept_few [] = omega arith
 kept_few ([] ∷ []) = omega arith
 kept_few ([] ∷ (l ∷ ls)) = omega arith
 kept_few ((r ∷ l) ∷ ls) = omega arith
+
+pub kept_within : (b : List Layer) (k : ℕ) → k ≡ length (kept b) → length b ≤ 255 → k ≤ 255
+kept_within b k e h = omega (arith, kept_few b)
 
 kept_ends : (b : List ℕ) → Bytes b → Installed b → take (8 * length (kept (generation_of b).base)) (drop ends_offset b) ≡ bytes_of (layer_ends (kept (generation_of b).base))
 unfolding layer_ends bytes_of

@@ -1,57 +1,57 @@
 -- The link in the terms of the words that the code reads.
 use Rattle.std.specs.Prelude.{None, Option, Some, is_some}
 use Prim.Native.Nat.{ℕ, suc, ◌+◌, ◌-◌, ◌^◌, ◌<◌}
-use mathlib.Core.Path.{◌≡◌, refl, sym, ◌∙◌}
+use mathlib.Core.Path.{◌≡◌, refl, sym, ap, ◌∙◌}
 use mathlib.Core.Bool.{Bool, true, false, ◌&&◌, cond}
 use mathlib.Core.List.{List, [], ◌∷◌}
 use native.Mathlib.Omega.{arith}
 use lib.Dec.{eqb, ltb}
-use lib.ListN.{length, get_or}
+use lib.ListN.{length}
 use borrow.Author.Tests.{lt-ltb, le-ltb, eq-eqb, ne_eqb}
 use Rattle.model.specs.declared.storage_memo.U256.{U256}
 use Rattle.model.specs.declared.storage_memo.ReadAnchor.{ReadAnchor}
-use Rattle.model.specs.declared.read_hub.Lineage.TheVariants.{Linked, NoParent, NotConsecutive, ParentHashUnknown, ParentHashMismatch}
-use Rattle.model.specs.Slots.{u256_words, words_eqb, u256_eqb}
+use Rattle.model.specs.declared.read_hub.Lineage.{Lineage}
+use Rattle.model.specs.declared.read_hub.Lineage.TheVariants.{Linked, NoParent, NotConsecutive, ParentHashMismatch}
+use Rattle.model.specs.Slots.{u256_eqb}
 use Rattle.model.specs.Layers.{Layer, record_count}
 use Rattle.model.specs.Store.{Generation}
 use Rattle.model.proofs.SlotLaws.{not_both}
-use Rattle.seal.specs.Sealed.{anchor_of}
 use Rattle.model.specs.Advance.{classify_hash, classify_link, is_void}
-use Rattle.image.specs.Image.{hash_words}
+use Rattle.image.specs.Lent.{store_of, generation_of, IsStore, Installed}
+use Rattle.image.proofs.Lent.{installs_some}
+use Rattle.seal.specs.Sealed.{anchor_of, installed_anchor}
 
--- The first word of a hash says whether it is known.
-pub hash_unknown : (k : Option U256) (h : U256) (w : ℕ) → w ≡ get_or (hash_words k) 0 0 → w ≡ 0 → ParentHashUnknown ≡ classify_hash k h
-hash_unknown None h w e z = refl
-hash_unknown (Some k) h w e z = absurd (omega arith)
+-- A parent's hash, compared with the child's.
+pub hash_compared : (a p : ReadAnchor) (k h : U256) (t : Bool) → a ≡ p → a.hash ≡ Some k → u256_eqb k h ≡ t → cond t Linked ParentHashMismatch ≡ classify_hash p.hash h
+hash_compared a p k h t e q r = sym (ap (λ (x : ReadAnchor). classify_hash x.hash h) (sym e) ∙ ap (λ (x : Option U256). classify_hash x h) q ∙ ap (λ (x : Bool). cond x Linked ParentHashMismatch) r)
 
--- A known hash, compared word by word with the answer t.
-pub hash_known : (k : Option U256) (h : U256) (w w0 w1 w2 w3 : ℕ) (t : Bool) → w ≡ get_or (hash_words k) 0 0 → (w ≡ 0 → ⊥)
-    → w0 ≡ get_or (hash_words k) 1 0 → w1 ≡ get_or (hash_words k) 2 0 → w2 ≡ get_or (hash_words k) 3 0 → w3 ≡ get_or (hash_words k) 4 0
-    → t ≡ words_eqb (w0 ∷ w1 ∷ w2 ∷ w3 ∷ []) (u256_words h) → cond t Linked ParentHashMismatch ≡ classify_hash k h
-unfolding u256_eqb
-hash_known None h w w0 w1 w2 w3 t e n e0 e1 e2 e3 q = absurd (n e)
-hash_known (Some k) h w w0 w1 w2 w3 t e n e0 e1 e2 e3 q = rw (q, e0, e1, e2, e3)
+-- The number of a parent, which is installed, decides.
+module _ (s : List ℕ) (i : Installed s) (child : ReadAnchor) (h : U256) (n : ℕ) (e : n ≡ (generation_of s).anchor.number) where
+  abbrev p : ReadAnchor
+  p = (generation_of s).anchor
 
--- The number of a parent decides.
-pub last_parent : (p child : ReadAnchor) (h : U256) (n : ℕ) → n ≡ p.number → n ≡ 0xffffffffffffffff → NotConsecutive ≡ classify_link (Some p) child h
-last_parent p child h n e z =
-    let f : ltb p.number (2 ^ 64 - 1) ≡ false = le-ltb p.number (2 ^ 64 - 1) (omega arith) in
-    rw f
+  link_is : {l : Lineage} → l ≡ classify_link (Some p) child h → l ≡ classify_link (installed_anchor (store_of s)) child h
+  link_is q = q ∙ ap (λ (x : Option Generation). classify_link (anchor_of x) child h) (sym i.installs)
 
-pub not_next : (p child : ReadAnchor) (h : U256) (n : ℕ) → n ≡ p.number → (child.number ≡ n + 1 → ⊥) → NotConsecutive ≡ classify_link (Some p) child h
-not_next p child h n e z =
-    let f : eqb child.number (suc p.number) ≡ false = ne_eqb child.number (suc p.number) (λ q. z (omega arith)) in
-    go (ltb p.number (2 ^ 64 - 1)) (eqb child.number (suc p.number)) f
-  where
-    go : (s t : Bool) → t ≡ false → NotConsecutive ≡ cond (s && t) (classify_hash p.hash h) NotConsecutive
-    go true t q = rw q
-    go false t q = refl
+  pub last_parent : n ≡ 0xffffffffffffffff → NotConsecutive ≡ classify_link (installed_anchor (store_of s)) child h
+  last_parent z =
+      let f : ltb p.number (2 ^ 64 - 1) ≡ false = le-ltb p.number (2 ^ 64 - 1) (omega arith) in
+      link_is (rw f)
 
-pub next_parent : (p child : ReadAnchor) (h : U256) (n : ℕ) → n ≡ p.number → n < 0xffffffffffffffff → child.number ≡ n + 1 → classify_hash p.hash h ≡ classify_link (Some p) child h
-next_parent p child h n e z q =
-    let f : ltb p.number (2 ^ 64 - 1) ≡ true = lt-ltb p.number (2 ^ 64 - 1) (omega arith) in
-    let g : eqb child.number (suc p.number) ≡ true = eq-eqb child.number (suc p.number) (omega arith) in
-    rw (f, g)
+  pub not_next : (child.number ≡ n + 1 → ⊥) → NotConsecutive ≡ classify_link (installed_anchor (store_of s)) child h
+  not_next z =
+      let f : eqb child.number (suc p.number) ≡ false = ne_eqb child.number (suc p.number) (λ q. z (omega arith)) in
+      link_is (go (ltb p.number (2 ^ 64 - 1)) (eqb child.number (suc p.number)) f)
+    where
+      go : (s t : Bool) → t ≡ false → NotConsecutive ≡ cond (s && t) (classify_hash p.hash h) NotConsecutive
+      go true t q = rw q
+      go false t q = refl
+
+  pub next_parent : {l : Lineage} → n < 0xffffffffffffffff → child.number ≡ n + 1 → l ≡ classify_hash p.hash h → l ≡ classify_link (installed_anchor (store_of s)) child h
+  next_parent z q r =
+      let f : ltb p.number (2 ^ 64 - 1) ≡ true = lt-ltb p.number (2 ^ 64 - 1) (omega arith) in
+      let g : eqb child.number (suc p.number) ≡ true = eq-eqb child.number (suc p.number) (omega arith) in
+      link_is (rw (f, g) r)
 
 -- A base is void if it has one layer, and no records.
 pub not_void : (b : List Layer) (n : ℕ) → n ≡ length b → (n ≡ 1 → ⊥) → 0 < length b → n ≡ length (cond (is_void b) [] b)
@@ -75,7 +75,10 @@ one_full ([] ∷ []) n x e z p q = absurd (q p)
 one_full ([] ∷ (l ∷ ls)) n x e z p q = absurd (omega arith)
 one_full ((r ∷ l) ∷ ls) n x e z p q = sym z ∙ e
 
--- Without a generation there is no parent.
+-- A parent is installed, or there is none.
+pub parent_in : (b : List ℕ) {t : Bool} → IsStore b → t ≡ is_some (store_of b).installed → t ≡ true → Installed b
+parent_in b e q t = installs_some b e (sym q ∙ t)
+
 pub none_parent : (i : Option Generation) (child : ReadAnchor) (h : U256) → is_some i ≡ false → NoParent ≡ classify_link (anchor_of i) child h
 none_parent None child h e = refl
 none_parent (Some g) child h e = not_both refl e

@@ -1,5 +1,5 @@
 // The link of an advance, and the store after its seal, built in the work area.
-#![tactic(auto)]
+#![tactic(auto, using(layers::proofs::Header::header_room))]
 
 ghost use Rattle.std.specs.Prelude.{◌≡◌, cond, ◌++◌, [], ◌+◌, ◌*◌, ◌≤◌, ◌<◌, eqb, length, drop};
 ghost use Rattle.layout.specs.Layout.{ends_limit, records_offset};
@@ -10,91 +10,62 @@ ghost use Rattle.image.specs.Image.{bytes_of, overlay};
 ghost use Rattle.image.specs.Lent.{store_of, generation_of, IsStore, Installed};
 ghost use Rattle.seal.specs.Sealed.{installed_anchor, header_words, with_layer, topped_up, begun_on, compacted, Sealed};
 
+use layers::{LentGeneration, LentStore};
 use model::bal_prefetch::BalSkip;
 use model::delta_snapshot::CompactionReport;
 use model::read_hub::Lineage;
-use model::storage_memo::{B256, ReadAnchor, U256};
+use model::storage_memo::{B256, ReadAnchor};
 
 // The largest number of a block: it has no child.
 const LAST_NUMBER: u64 = 0xffff_ffff_ffff_ffff;
 
 // How the installed anchor's hash stands to the hash that the child names as its parent's.
-fn classify_hash(s: &[u8], parent_hash: B256) -> Lineage
-    requires { Installed s.now }
-    ensures { result ≡ advance.classify_hash (generation_of s.now).anchor.hash parent_hash }
+fn classify_hash(generation: LentGeneration, parent_hash: B256) -> Lineage
+    ensures { result ≡ advance.classify_hash (generation_of generation.entry.bytes.now).anchor.hash parent_hash }
 {
-    if words::read_u64(s, layout::HASH_OFFSET) == 0 {
+    let Some(hash) = header::installed_anchor(generation).hash else {
         return Lineage::ParentHashUnknown;
-    }
-    if !header::same_u256(s, layout::HASH_W0_OFFSET, parent_hash) {
+    };
+    if hash != parent_hash {
         return Lineage::ParentHashMismatch;
     }
     Lineage::Linked
 }
 
 // How a child stands to the installed anchor (`classify_link`), the first that applies.
-pub fn classify_link(s: &[u8], child: ReadAnchor, parent_hash: B256) -> Lineage
-    requires { IsStore s.now }
-    ensures { result ≡ advance.classify_link (installed_anchor (store_of s.now)) child parent_hash }
+pub fn classify_link(store: LentStore, child: ReadAnchor, parent_hash: B256) -> Lineage
+    ensures { result ≡ advance.classify_link (installed_anchor (store_of store.entry.bytes.now)) child parent_hash }
 {
-    if !layers::is_installed(s) {
+    if !store.is_installed() {
         return Lineage::NoParent;
     }
-    let number = layers::installed_number(s);
+    let generation = LentGeneration { bytes: store.bytes };
+    let number = generation.installed_number();
     if number == LAST_NUMBER {
         return Lineage::NotConsecutive;
     }
     if child.number != number + 1 {
         return Lineage::NotConsecutive;
     }
-    classify_hash(s, parent_hash)
-}
-
-// The skip of a number; one above 3 is refused before.
-pub fn skip_of(k: u64) -> BalSkip
-    ensures { result ≡ advance.skip_of k }
-{
-    if k == 0 {
-        return BalSkip::Decoded;
-    }
-    if k == 1 {
-        return BalSkip::NoAnchorHash;
-    }
-    if k == 2 {
-        return BalSkip::Rpc;
-    }
-    BalSkip::Decode
+    classify_hash(generation, parent_hash)
 }
 
 // Whether an advance carries: linked, and its list read.
 pub fn carries(l: Lineage, k: BalSkip) -> bool
     ensures { result ≡ advance.carries l k }
 {
-    match l {
-        Lineage::Linked => {}
-        Lineage::NoParent => return false,
-        Lineage::NotConsecutive => return false,
-        Lineage::ParentHashUnknown => return false,
-        Lineage::ParentHashMismatch => return false,
-    }
-    match k {
-        BalSkip::Decoded => true,
-        BalSkip::NoAnchorHash => false,
-        BalSkip::Rpc => false,
-        BalSkip::Decode => false,
-    }
+    l == Lineage::Linked && k == BalSkip::Decoded
 }
 
 // How many layers of the base stay under the sealed top: none if the base is void.
-fn kept_layers(s: &[u8]) -> usize
-    requires { Installed s.now }
-    ensures { result ≡ length (cond (advance.is_void (generation_of s.now).base) [] (generation_of s.now).base) }
+fn kept_layers(generation: LentGeneration) -> usize
+    ensures { result ≡ length (cond (advance.is_void (generation_of generation.entry.bytes.now).base) [] (generation_of generation.entry.bytes.now).base) }
 {
-    let n = layers::layers(s);
+    let n = generation.layers();
     if n != 1 {
         return n;
     }
-    if layers::top_start(s) == 0 {
+    if generation.top_start() == 0 {
         return 0;
     }
     1
@@ -107,21 +78,7 @@ fn write_header(s: &[u8], work: &mut [u8], child: ReadAnchor)
 {
     words::clear(work, 0, layout::RECORDS_OFFSET);
     words::place(work, 0, &s[0..layout::INSTALLED_OFFSET]);
-    let hash = child.hash;
-    match hash {
-        None => header::write_anchor(
-            work,
-            child.number,
-            0,
-            U256 {
-                w0: 0,
-                w1: 0,
-                w2: 0,
-                w3: 0,
-            },
-        ),
-        Some(h) => header::write_anchor(work, child.number, 1, h),
-    }
+    header::write_anchor(work, child);
 }
 
 // Writes that layer k is the highest, and that there are n records up to it.
@@ -135,12 +92,12 @@ fn add_layer(work: &mut [u8], k: usize, n: usize)
 }
 
 // The start of a cold advance: the store in the work area has a generation at the child over a void base.
-pub fn begin_cold(s: &[u8], work: &mut [u8], child: ReadAnchor)
-    requires { IsStore s.now × (store_size (store_of s.now).config.capacity ≤ length work.old) }
-    ensures { work.new ≡ overlay (begun_on (store_of s.now).config child advance.void_base) work.old }
+pub fn begin_cold(store: LentStore, work: &mut [u8], child: ReadAnchor)
+    requires { store_size (store_of store.bytes.now).config.capacity ≤ length work.old }
+    ensures { work.new ≡ overlay (begun_on (store_of store.entry.bytes.now).config child advance.void_base) work.old }
 {
-    let capacity = words::read_u64(s, layout::CAPACITY_OFFSET) as usize;
-    write_header(s, work, child);
+    let capacity = words::read_u64(store.bytes, layout::CAPACITY_OFFSET) as usize;
+    write_header(store.bytes, work, child);
     words::clear(work, layout::RECORDS_OFFSET, layout::RECORD_SIZE * capacity);
 }
 
@@ -151,7 +108,7 @@ fn seal_layers(s: &[u8], work: &mut [u8], child: ReadAnchor)
 {
     let capacity = words::read_u64(s, layout::CAPACITY_OFFSET) as usize;
     let n = words::read_u64(s, layout::RECORDS_COUNT_OFFSET) as usize;
-    let k = kept_layers(s);
+    let k = kept_layers(LentGeneration { bytes: s });
     write_header(s, work, child);
     words::place(
         work,
@@ -184,9 +141,10 @@ fn place_top(s: &[u8], work: &mut [u8], left: usize)
     requires { Installed s.now × (left ≤ record_count (generation_of s.now).base) × (store_size (store_of s.now).config.capacity ≤ length work.old) }
     ensures { work.new ≡ topped_up left (store_of s.now).config.capacity (generation_of s.now).top work.old }
 {
+    let generation = LentGeneration { bytes: s };
     let capacity = words::read_u64(s, layout::CAPACITY_OFFSET) as usize;
-    let start = layout::RECORDS_OFFSET + layout::RECORD_SIZE * layers::top_start(s);
-    let n = layers::top_count(s);
+    let start = layout::RECORDS_OFFSET + layout::RECORD_SIZE * generation.top_start();
+    let n = generation.top_count();
     let at = layout::RECORDS_OFFSET + layout::RECORD_SIZE * left;
     words::place(work, at, &s[start..start + layout::RECORD_SIZE * n]);
     words::clear(
@@ -201,40 +159,41 @@ fn seal_folded(s: &[u8], work: &mut [u8], child: ReadAnchor) -> CompactionReport
     requires { Installed s.now × (store_size (store_of s.now).config.capacity ≤ length work.old) }
     ensures { Sealed result work.new work.old (store_of s.now).config child (generation_of s.now).top (advance.compact (store_of s.now).config.retention (generation_of s.now).anchor.number (generation_of s.now).base) }
 {
-    let base = layers::top_start(s);
-    let top = layers::top_count(s);
-    let merged = layers::layers(s);
-    let retention = layers::retention(s);
-    let number = layers::installed_number(s);
+    let generation = LentGeneration { bytes: s };
+    let base = generation.top_start();
+    let number = generation.installed_number();
     write_header(s, work, child);
     let folded = fold::compact(
         &s[layout::RECORDS_OFFSET..],
         base,
-        retention,
+        generation.retention(),
         number,
         &mut work[layout::RECORDS_OFFSET..],
     );
     let left = folded.left;
-    let dropped = folded.dropped;
     place_top(s, work, left);
-    add_layers(work, left, left + top);
+    add_layers(work, left, left + generation.top_count());
     CompactionReport {
-        merged,
+        merged: generation.layers(),
         left,
-        dropped,
+        dropped: folded.dropped,
     }
 }
 
 // The start of a carry: the store in the work area has a generation at the child over the parent, whose base is folded if it is due (`compact_base`) and whose top is sealed (`seal`).
-pub fn begin_carried(s: &[u8], work: &mut [u8], child: ReadAnchor) -> CompactionReport
-    requires { Installed s.now × (store_size (store_of s.now).config.capacity ≤ length work.old) }
-    ensures { Sealed result work.new work.old (store_of s.now).config child (generation_of s.now).top (compacted (store_of s.now).config (generation_of s.now)) }
+pub fn begin_carried(
+    generation: LentGeneration,
+    work: &mut [u8],
+    child: ReadAnchor,
+) -> CompactionReport
+    requires { store_size (store_of generation.bytes.now).config.capacity ≤ length work.old }
+    ensures { Sealed result work.new work.old (store_of generation.entry.bytes.now).config child (generation_of generation.entry.bytes.now).top (compacted (store_of generation.entry.bytes.now).config (generation_of generation.entry.bytes.now)) }
 {
-    let limit = words::read_u64(s, layout::MAX_DEPTH_OFFSET) as usize;
-    if limit < layers::layers(s) {
-        return seal_folded(s, work, child);
+    let limit = words::read_u64(generation.bytes, layout::MAX_DEPTH_OFFSET) as usize;
+    if limit < generation.layers() {
+        return seal_folded(generation.bytes, work, child);
     }
-    seal_layers(s, work, child);
+    seal_layers(generation.bytes, work, child);
     CompactionReport {
         merged: 0,
         left: 0,
