@@ -42,11 +42,11 @@ fn awaiting_in<'a>(generation: LentGeneration<'a>) -> Awaiting<'a>
     }
 }
 
-// Whether a slot would be the 65th awaiting an answer.
-fn queue_full(generation: LentGeneration, slot: Slot) -> bool
-    ensures { result ≡ (not (reads.is_awaiting slot (generation_of generation.entry.bytes.now).pending) && leb 64 (length (generation_of generation.entry.bytes.now).pending)) }
+// Whether a slot would be the 65th awaiting an answer. `joined` says whether it awaits one already.
+fn queue_full(generation: LentGeneration, joined: bool) -> bool
+    ensures { result ≡ (not joined && leb 64 (length (generation_of generation.entry.bytes.now).pending)) }
 {
-    !awaiting_in(generation).is_awaiting(slot) && 64 <= awaiting_count(generation)
+    !joined && 64 <= awaiting_count(generation)
 }
 
 // An unserved read's slot joins the queue or gains a waiter.
@@ -110,11 +110,11 @@ fn wait(s: &mut [u8], slot: Slot) -> ReadReply
     ensures { Stepped (read_reply result) s.new (bytes_step s.old (alone (on_store (at_anchor (generation_of s.old).anchor (on_slot (calls.read slot)))))) }
 {
     let generation = LentGeneration { bytes: s };
-    if queue_full(generation, slot) {
-        return Err(Refusal::QueueFull);
-    }
     let awaiting = awaiting_in(generation);
     let joined = awaiting.is_awaiting(slot);
+    if queue_full(generation, joined) {
+        return Err(Refusal::QueueFull);
+    }
     let w = awaiting.waiters(slot);
     join(s, slot);
     totals::record_read(s, false, joined);
