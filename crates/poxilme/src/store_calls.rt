@@ -133,6 +133,7 @@ impl StoreCalls for Unchecked {
         unchecked_reads::take(s, anchor, out)
     }
 
+    #[tactic(auto, using(crate::proofs::Flags::flags_unknown))]
     fn answer(s: &mut [u8], anchor: ReadAnchor, members: &[u8]) -> AnswerReply {
         if !awaiting::flags_known(members) {
             return Err(Refusal::UnknownForm);
