@@ -15,6 +15,7 @@ use model::bal_prefetch::BalSkip;
 use model::delta_snapshot::CompactionReport;
 use model::read_hub::Lineage;
 use model::storage_memo::{B256, ReadAnchor};
+use order::Records;
 
 // The largest number of a block: it has no child.
 const LAST_NUMBER: u64 = 0xffff_ffff_ffff_ffff;
@@ -160,11 +161,13 @@ fn seal_folded(s: &[u8], work: &mut [u8], child: ReadAnchor) -> CompactionReport
     ensures { Sealed result work.new work.old (store_of s.now).config child (generation_of s.now).top (advance.compact (store_of s.now).config.retention (generation_of s.now).anchor.number (generation_of s.now).base) }
 {
     let generation = LentGeneration { bytes: s };
-    let base = generation.top_start();
     let number = generation.installed_number();
+    let base = Records {
+        bytes: &s[layout::RECORDS_OFFSET..],
+        count: generation.top_start(),
+    };
     write_header(s, work, child);
     let folded = fold::compact(
-        &s[layout::RECORDS_OFFSET..],
         base,
         generation.retention(),
         number,
