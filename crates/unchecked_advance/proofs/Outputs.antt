@@ -1,5 +1,5 @@
 -- The output of an advance, half way: the slots that are still to be put, at their place. Assumes nothing.
-use Rattle.std.specs.Prelude.{is_some, Err, Ok}
+use Rattle.std.specs.Prelude.{is_ok, is_some, Err, Ok}
 use Prim.Native.Nat.{ℕ, zero, suc, ◌+◌, ◌*◌, ◌/◌, ◌≤◌, ◌<◌}
 use mathlib.Core.Path.{◌≡◌, sym, ap, ap₂, ◌∙◌}
 use mathlib.Core.Bool.{Bool, true, false, cond}
@@ -23,12 +23,10 @@ use Rattle.records.proofs.Places.{found_content, absent_none}
 use Rattle.seed.proofs.Entries.{write_at, writes_end}
 use Rattle.unchecked_advance.specs.Outputs.{applied_in}
 
--- By the place that the search found.
-pub found_at : (l : Layer) (t : Slot) (f : Found) (i : ℕ) → f ≡ place_in t l → f ≡ Ok i → true ≡ is_some (find t l)
-found_at l t f i p q = sym (ap is_some (found_content l t i (sym p ∙ q)))
-
-pub found_none : (l : Layer) (t : Slot) (f : Found) (i : ℕ) → rising l ≡ true → f ≡ place_in t l → f ≡ Err i → false ≡ is_some (find t l)
-found_none l t f i r p q = sym (ap is_some (absent_none l t i r (sym p ∙ q)))
+-- Whether the search found a slot says whether the layer has a record of it.
+pub found_in : (l : Layer) (t : Slot) (f : Found) → rising l ≡ true → f ≡ place_in t l → is_ok f ≡ is_some (find t l)
+found_in l t (Ok i) r p = sym (ap is_some (found_content l t i (sym p)))
+found_in l t (Err i) r p = sym (ap is_some (absent_none l t i r (sym p)))
 
 -- A slot's bytes ----------------------------------------------------------------------------------------
 

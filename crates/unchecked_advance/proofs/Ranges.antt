@@ -13,7 +13,7 @@ use Rattle.model.specs.declared.storage_memo.U256.{U256}
 use Rattle.model.specs.declared.storage_memo.ReadAnchor.{ReadAnchor}
 use Rattle.model.proofs.SlotLaws.{and_intro}
 use Rattle.model.specs.Slots.{fits_64, u256_fits}
-use Rattle.image.specs.WellFormed.{hash_fits, anchor_fits}
+use Rattle.image.specs.WellFormed.{anchor_fits}
 
 pub word_range : {x : ℕ} → x < 2 ^ 64 → fits_64 x ≡ true
 word_range {x} h = lt-ltb x (2 ^ 64) h

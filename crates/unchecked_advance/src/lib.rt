@@ -1,5 +1,5 @@
 // An advance of a store known to be right.
-#![tactic(auto)]
+#![tactic(auto, using(layers::proofs::Header::header_room))]
 
 ghost use Rattle.std.specs.Prelude.{◌≡◌, List, ℕ, suc, ◌+◌, ◌*◌, ◌/◌, ◌≤◌, length, take, true, is_some};
 ghost use Rattle.model.specs.Layers.{find};
@@ -18,6 +18,7 @@ ghost use Rattle.replies.specs.Replies.{lent_prepared};
 ghost use Rattle.unchecked_advance.specs.Inner.{CountedAs, CountsBefore, Ready, ended, writing};
 
 use counts::Counts;
+use layers::{LentGeneration, LentStore};
 use model::bal_prefetch::BalSkip;
 use model::delta_snapshot::{CompactionReport, Slot};
 use model::read_hub::{CarryOutcome, Lineage};
@@ -38,32 +39,29 @@ pub fn counts_of(s: &[u8]) -> Counts
     requires { Installed s.now }
     ensures { CountedAs result (store_of s.now).config.retention (generation_of s.now) }
 {
-    let base = layers::top_start(s);
-    let top = layers::top_count(s);
-    let retention = layers::retention(s);
-    let number = layers::installed_number(s);
+    let generation = LentGeneration { bytes: s };
+    let base = generation.top_start();
+    let top = generation.top_count();
+    let retention = generation.retention();
+    let number = generation.installed_number();
     counts::held_and_live(&s[layout::RECORDS_OFFSET..], base + top, retention, number)
 }
 
 // Whether a slot has a record in the top.
-fn in_top(s: &[u8], slot: Slot) -> bool
-    requires { Installed s.now }
-    ensures { result ≡ is_some (find slot (generation_of s.now).top) }
+fn in_top(generation: LentGeneration, slot: Slot) -> bool
+    ensures { result ≡ is_some (find slot (generation_of generation.entry.bytes.now).top) }
 {
-    match layers::top_place(s, slot) {
-        Ok(_) => true,
-        Err(_) => false,
-    }
+    generation.top_place(slot).is_ok()
 }
 
 // Puts the slots of the applied writes to the output: those that the new top has a record of. How many they are.
-pub fn write_outputs(work: &[u8], writes: &[u8], out: &mut [u8]) -> usize
-    requires { Installed work.now × (length writes.now / 84 * 52 ≤ length out.old) }
-    ensures { (out.new ≡ with_slots (applied_in (generation_of work.now).top (writes_of writes.now)) out.old) × (result ≡ length (applied_in (generation_of work.now).top (writes_of writes.now))) }
+pub fn write_outputs(generation: LentGeneration, writes: &[u8], out: &mut [u8]) -> usize
+    requires { length writes.now / 84 * 52 ≤ length out.old }
+    ensures { (out.new ≡ with_slots (applied_in (generation_of generation.entry.bytes.now).top (writes_of writes.now)) out.old) × (result ≡ length (applied_in (generation_of generation.entry.bytes.now).top (writes_of writes.now))) }
 {
     let mut k = 0;
     for i in 0..writes.len() / 84 {
-        if in_top(work, seed::write_slot_of(writes, i)) {
+        if in_top(generation, seed::write_slot_of(writes, i)) {
             let at = i * 84;
             words::place(out, k * 52, &writes[at..at + 52]);
             k += 1;
@@ -81,7 +79,7 @@ fn count_after(work: &[u8], writes: &[u8], out: &mut [u8], applied: u64, before:
     if applied == 0 {
         return before;
     }
-    write_outputs(work, writes, out);
+    write_outputs(LentGeneration { bytes: work }, writes, out);
     counts_of(work)
 }
 
@@ -130,7 +128,7 @@ fn cold(
     requires { IsStore s.old × (anchor_fits child ≡ true) × (store_size (store_of s.old).config.capacity ≤ length work.old) × (length writes.now / 84 * 52 ≤ length out.old) }
     ensures { (k : ℕ) → skip ≡ skip_of k → AdvancedAs result s.new out.new (ended (store_of s.old).config (cold_advance (store_of s.old).config child lineage (lent_prepared k addresses.now writes.now)) s.old) out.old }
 {
-    seal::begin_cold(s, work, child);
+    seal::begin_cold(LentStore { bytes: s }, work, child);
     let counted = counts_of(work);
     let none = CompactionReport {
         merged: 0,
@@ -161,7 +159,7 @@ fn carried(
     requires { Installed s.old × (anchor_fits child ≡ true) × (child.number ≡ suc (generation_of s.old).anchor.number) × (store_size (store_of s.old).config.capacity ≤ length work.old) × (length writes.now / 84 * 52 ≤ length out.old) }
     ensures { (k : ℕ) → AdvancedAs result s.new out.new (ended (store_of s.old).config (carry (store_of s.old).config (generation_of s.old) child (lent_prepared k addresses.now writes.now)) s.old) out.old }
 {
-    let compaction = seal::begin_carried(s, work, child);
+    let compaction = seal::begin_carried(LentGeneration { bytes: s }, work, child);
     let counted = counts_of(work);
     let held = counted.held as u64;
     finish(
@@ -177,11 +175,10 @@ fn carried(
 }
 
 // The answer of an advance to the installed anchor.
-fn current(s: &[u8]) -> AdvanceReply
-    requires { Installed s.now }
-    ensures { (out : List ℕ) → advance_reply result out ≡ ok (already_current (store_of s.now).config (generation_of s.now)) }
+fn current(generation: LentGeneration) -> AdvanceReply
+    ensures { (out : List ℕ) → advance_reply result out ≡ ok (already_current (store_of generation.entry.bytes.now).config (generation_of generation.entry.bytes.now)) }
 {
-    let counted = counts_of(s);
+    let counted = counts_of(generation.bytes);
     Ok(DeltaReport {
         outcome: CarryOutcome::AlreadyCurrent,
         writes: WriteCounts {
@@ -204,24 +201,25 @@ fn proceed(
     s: &mut [u8],
     child: ReadAnchor,
     parent_hash: B256,
-    skip: u64,
+    skip: BalSkip,
     addresses: &[u8],
     writes: &[u8],
     work: &mut [u8],
     out: &mut [u8],
 ) -> AdvanceReply
     requires { IsStore s.old × (anchor_fits child ≡ true) × (store_size (store_of s.old).config.capacity ≤ length work.old) × (length writes.now / 84 * 52 ≤ length out.old) }
-    ensures { AdvancedAs result s.new out.new (ended (store_of s.old).config (perform (store_of s.old).config (store_of s.old).installed (calls.advance child parent_hash (lent_prepared skip addresses.now writes.now))) s.old) out.old }
+    ensures { (k : ℕ) → skip ≡ skip_of k → AdvancedAs result s.new out.new (ended (store_of s.old).config (perform (store_of s.old).config (store_of s.old).installed (calls.advance child parent_hash (lent_prepared k addresses.now writes.now))) s.old) out.old }
 {
-    if header::guard(s, child) == Ok(()) {
-        return current(s);
+    let store = LentStore { bytes: s };
+    if header::guard(store, child) == Ok(()) {
+        let generation = LentGeneration { bytes: s };
+        return current(generation);
     }
-    let lineage = seal::classify_link(s, child, parent_hash);
-    let k = seal::skip_of(skip);
-    if seal::carries(lineage, k) {
+    let lineage = seal::classify_link(store, child, parent_hash);
+    if seal::carries(lineage, skip) {
         return carried(s, child, addresses, writes, work, out);
     }
-    cold(s, child, lineage, k, addresses, writes, work, out)
+    cold(s, child, lineage, skip, addresses, writes, work, out)
 }
 
 // An advance of a store known to be right (`apply_prepared`). Refused by 6, 7, 9 and 23.
@@ -239,14 +237,10 @@ pub fn advance(
     ensures { AdvancedAs result s.new out.new (bytes_step s.old (advance_call child parent_hash skip addresses.now writes.now work.old out.old)) out.old }
 {
     let n = writes.len() / 84;
-    if skip != 0 {
-        if n != 0 {
-            return Err(Refusal::SkipWithWrites);
-        }
-        if 3 < skip {
-            return Err(Refusal::SkipOutOfRange);
-        }
+    if skip != 0 && n != 0 {
+        return Err(Refusal::SkipWithWrites);
     }
+    let bal = BalSkip::try_from(skip)?;
     if work.len()
         < layout::RECORDS_OFFSET
             + layout::RECORD_SIZE * (words::read_u64(s, layout::CAPACITY_OFFSET) as usize)
@@ -256,5 +250,5 @@ pub fn advance(
     if out.len() / 52 < n {
         return Err(Refusal::LentTooShort);
     }
-    proceed(s, child, parent_hash, skip, addresses, writes, work, out)
+    proceed(s, child, parent_hash, bal, addresses, writes, work, out)
 }

@@ -1,9 +1,9 @@
 -- `unchecked_advance::finish` meets its contract. Assumes nothing.
 use Prim.Native.Nat.{◌+◌, ◌*◌, ◌≤◌}
 use native.Mathlib.Omega.{arith}
+use borrow.Author.Rules.{rules}
 use lib.ListN.{length}
 use Rattle.layout.specs.Layout.{record_size, records_offset}
-use Rattle.layers.proofs.Header.{header_room}
 use Rattle.header.proofs.Segments.{known_bytes}
 use Rattle.unchecked_advance.proofs.Finished.{seeded_full, seeded_done, size_fits, size_in, finish_full, counts_before, finish_done}
 use Rattle.unchecked_advance.proofs.finish.Goals as goal
@@ -20,21 +20,14 @@ pub count_after-counted-requires : goal.count_after-counted-requires
 count_after-counted-requires c =
     let a = c.args in
     let t = seeded_done _ _ _ _ _ _ c.seed_final_writes-seeded.ensures c.in-Some.is in
-    (record { installed = (t.installed, c.requires.1); counts_before = counts_before a.s.now a.work.now a.addresses.now a.writes.now a.out.now a.outcome a.compaction c.requires.0 _ _ (known_bytes c.seed_final_writes-seeded.new.s c.slice_known-4-1.given) t _ c.requires.2 }
+    (record { installed = (t.installed, c.requires.1); counts_before = counts_before a.s.now a.work.now a.addresses.now a.writes.now a.out.now a.outcome a.compaction c.requires.0 _ _ (known_bytes _ (search rules)) t _ c.requires.2 }
     )
 
-pub read_u64-requires : goal.read_u64-requires
-read_u64-requires c = omega (arith, header_room c.args.s.now c.requires.0.is_store)
-
 pub overflow_mul-n : goal.overflow_mul-n
-overflow_mul-n c =
-    let fits : (records_offset + record_size * c.read_u64.result ≤ length c.args.s.now) × (c.read_u64.result ≤ 4096) = size_fits c.args.s.now c.args.work.now _ c.requires.0 c.read_u64.ensures in
-    omega (arith, fits)
+overflow_mul-n c = omega (arith, size_fits c.args.s.now c.args.work.now _ c.requires.0 c.read_u64.ensures)
 
 pub overflow_add-n : goal.overflow_add-n
-overflow_add-n c =
-    let fits : (records_offset + record_size * c.read_u64.result ≤ length c.args.s.now) × (c.read_u64.result ≤ 4096) = size_fits c.args.s.now c.args.work.now _ c.requires.0 c.read_u64.ensures in
-    omega (arith, fits)
+overflow_add-n c = omega (arith, size_fits c.args.s.now c.args.work.now _ c.requires.0 c.read_u64.ensures)
 
 pub copy_back-requires : goal.copy_back-requires
 copy_back-requires c =
@@ -44,4 +37,4 @@ copy_back-requires c =
 pub returns : goal.returns
 returns c =
     let a = c.args in
-    finish_done a.s.now a.work.now a.addresses.now a.writes.now a.out.now a.outcome a.compaction c.requires.0 _ _ (known_bytes c.seed_final_writes-seeded.new.s c.slice_known-4-1.given) (seeded_done _ _ _ _ _ _ c.seed_final_writes-seeded.ensures c.in-Some.is) _ _ _ _ (known_bytes a.writes.now c.type_inv.writes) c.read_u64.ensures c.copy_back.ensures c.count_after-counted.ensures.0 c.count_after-counted.ensures.1
+    finish_done a.s.now a.work.now a.addresses.now a.writes.now a.out.now a.outcome a.compaction c.requires.0 _ _ (known_bytes _ (search rules)) (seeded_done _ _ _ _ _ _ c.seed_final_writes-seeded.ensures c.in-Some.is) _ _ _ _ (known_bytes a.writes.now c.type_inv.writes) c.read_u64.ensures c.copy_back.ensures c.count_after-counted.ensures.0 c.count_after-counted.ensures.1

@@ -4,4 +4,4 @@ use Rattle.unchecked_advance.proofs.Outputs.{Putting}
 use Rattle.unchecked_advance.proofs.write_outputs.Given as goal
 
 abbrev pub invariant-loop-i : goal.invariant-loop-i
-invariant-loop-i l = Putting (generation_of l.work).top l.writes l.initial.out l.out l.k l.i
+invariant-loop-i l = Putting (generation_of l.generation.bytes.now).top l.writes l.initial.out l.out l.k l.i
