@@ -24,6 +24,7 @@ use model::delta_snapshot::{CompactionReport, Slot};
 use model::read_hub::{CarryOutcome, Lineage};
 use model::refusal::Refusal;
 use model::storage_memo::{B256, ReadAnchor};
+use order::Records;
 use replies::{AdvanceReply, DeltaReport, WriteCounts};
 
 // Copies the first n bytes of the work area to the store.
@@ -44,7 +45,11 @@ pub fn counts_of(s: &[u8]) -> Counts
     let top = generation.top_count();
     let retention = generation.retention();
     let number = generation.installed_number();
-    counts::held_and_live(&s[layout::RECORDS_OFFSET..], base + top, retention, number)
+    let records = Records {
+        bytes: &s[layout::RECORDS_OFFSET..],
+        count: base + top,
+    };
+    counts::held_and_live(records, retention, number)
 }
 
 // Whether a slot has a record in the top.
