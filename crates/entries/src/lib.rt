@@ -48,14 +48,12 @@ pub fn read_slot(s: &[u8], at: usize) -> Slot
     }
 }
 
-// Whether the address at `at` is the given one. Compared in place, the last word first: most addresses that differ do so there.
+// Whether the address at `at` is the given one.
 pub fn is_address(s: &[u8], at: usize, address: Address) -> bool
     requires { at + 20 ≤ length s.now }
     ensures { result ≡ address_eqb (address_of (drop at s.now)) address }
 {
-    words::read_u64(s, at + 12) == address.w2
-        && words::read_u64(s, at + 4) == address.w1
-        && words::read_u32(s, at) == address.w0
+    read_address(s, at) == address
 }
 
 // Whether an address is on a list of them, 20 bytes each.
