@@ -44,7 +44,8 @@ unfolding u256_eqb
 hash_same None = refl
 hash_same (Some x) = words_eqb_refl (u256_words x)
 
-anchor_same : (a : ReadAnchor) → anchor_eqb a a ≡ true
+-- An anchor is itself.
+pub anchor_same : (a : ReadAnchor) → anchor_eqb a a ≡ true
 unfolding anchor_eqb
 anchor_same a = and_intro _ _ (eq-eqb a.number a.number refl) (hash_same a.hash)
 

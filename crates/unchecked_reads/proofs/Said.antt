@@ -6,11 +6,11 @@ use mathlib.Core.Bool.{Bool, true, false, not, ◌&&◌, cond}
 use mathlib.Core.List.{List, [], ◌∷◌}
 use lib.Dec.{leb, ltb}
 use lib.ListN.{length}
-use borrow.Author.Tests.{eq-eqb, lt-ltb, le-ltb, le-leb, lt-leb}
+use borrow.Author.Tests.{lt-ltb, le-ltb, le-leb, lt-leb}
 use Rattle.model.specs.declared.delta_snapshot.Slot.{Slot}
 use Rattle.model.specs.declared.storage_memo.ReadAnchor.{ReadAnchor}
-use Rattle.model.specs.Slots.{Value, u256_words, u256_eqb, hash_eqb, anchor_eqb}
-use Rattle.model.proofs.SlotLaws.{and_intro, words_eqb_refl, anchor_eqb_true}
+use Rattle.model.specs.Slots.{Value, anchor_eqb}
+use Rattle.model.proofs.SlotLaws.{anchor_eqb_true}
 use Rattle.model.specs.Layers.{Layer, record_count}
 use Rattle.model.specs.Reads.{Member, is_awaiting, waiters_of, join, queued, take_queued, remove_all_pending, woken, all_taken, has_duplicate, member_slots, valued_slots, refused_slots, settle_members, count_served, count_waiting, count_answer}
 use Rattle.model.specs.Entries.{first_slots, with_slots}
@@ -28,9 +28,9 @@ use Rattle.header.specs.Header.{anchored_refusal}
 use Rattle.header.proofs.Guards.{stopped}
 use Rattle.unchecked_calls.proofs.Turned.{memory_of, over_by}
 use Rattle.header.proofs.Guards.{Here, past_guard}
+use Rattle.settling.proofs.Tops.{anchor_same}
 use Rattle.unchecked_reads.specs.Inner.{reading, awaited, answer_refusal}
 use Rattle.unchecked_reads.proofs.Turned.{twice, nothing_there, other_there, read_here, read_served, read_waits, take_here, take_accepted, answer_here, failed_here, answer_accepted, failed_accepted}
-use Rattle.model.specs.declared.storage_memo.U256.{U256}
 
 abbrev lent : List ℕ → BytesCall → Lent
 lent b c = (lent_call (length b) c).lent
@@ -118,17 +118,9 @@ past_answer_guard ss b a {x} e q = go (has_duplicate ss) refl q
     go true d h = absurd (cc)
     go false d h = record { once = d; here = past_guard b a e h }
 
--- The anchor of a generation is itself.
-hash_same : (k : Option U256) → hash_eqb k k ≡ true
-unfolding u256_eqb
-hash_same None = refl
-hash_same (Some x) = words_eqb_refl (u256_words x)
-
+-- The anchor of a generation is installed.
 pub here_own : (b : List ℕ) → Installed b → Here b (generation_of b).anchor
-unfolding anchor_eqb
-here_own b i =
-    let a : ReadAnchor = (generation_of b).anchor in
-    record { has = i; same = and_intro _ _ (eq-eqb a.number a.number refl) (hash_same a.hash) }
+here_own b i = record { has = i; same = anchor_same (generation_of b).anchor }
 
 -- A call at the installed anchor, named by the call.
 pub at_its_anchor : (b : List ℕ) (a : ReadAnchor) → Here b a → (k : AnchoredCall) {x : Answer} {y : List ℕ} → Stepped x y (bytes_step b (alone (on_store (at_anchor (generation_of b).anchor k)))) → Stepped x y (bytes_step b (alone (on_store (at_anchor a k))))
