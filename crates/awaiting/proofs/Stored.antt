@@ -21,7 +21,7 @@ use Rattle.model.proofs.WordLaws.{Fit}
 use Rattle.image.proofs.Words.{length_bytes_of, words_of_bytes}
 use Rattle.image.proofs.Entries.{length_pending, read_pendings, fit_pendings}
 use Rattle.image.proofs.Written.{bytes_append}
-use Rattle.awaiting.specs.Awaiting.{Rising, Ready, Holds}
+use Rattle.awaiting.specs.Awaiting.{Ready, Holds}
 use Rattle.awaiting.proofs.Places.{pending_at}
 
 -- The bytes of awaiting slots -----------------------------------------------------------------------------
@@ -252,7 +252,3 @@ ready_after n k q s b r h e f g =
     let x : with_pending k q b ≡ b = ap₂ (λ (j : ℕ) (y : List ℕ). with_pending j q y) l h.bytes_are ∙ with_same n q s ∙ sym h.bytes_are in
     let y : length b ≡ length w = ap length h.bytes_are in
     (record { few = g; area = omega arith; ok = ap pending_ok p ∙ e; waiters_fit = rw p f; exact = ap (λ (z : List Pending). with_pending k z b) p ∙ x }, p)
-
--- What a change asks is enough for a look-up.
-pub rising_of : (n : ℕ) (s : List ℕ) → Ready n s → Rising n s
-rising_of n s r = record { room = omega (arith, r.few, r.area); ok = r.ok }
