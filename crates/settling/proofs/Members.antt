@@ -1,5 +1,5 @@
 -- The members of a lent answer, one by one.
-use Rattle.std.specs.Prelude.{None, Option, Some, is_some}
+use Rattle.std.specs.Prelude.{None, Option, Some, is_some, is_err}
 use Prim.Native.Nat.{ℕ, ◌+◌, ◌/◌, ◌<◌}
 use mathlib.Core.Path.{◌≡◌, refl, sym, ap, ap₂, ◌∙◌}
 use mathlib.Core.Bool.{Bool, true, false, not, ◌&&◌, cond}
@@ -14,6 +14,11 @@ use Rattle.model.specs.Entries.{slot_of, u256_at, member_of, chunks, members_of}
 use Rattle.entries.proofs.Chunks.{chunks_more, chunks_none}
 use Rattle.model.specs.declared.delta_snapshot.Slot.{Slot}
 use Rattle.model.specs.Slots.{Value}
+use Rattle.image.specs.Lent.{generation_of, Installed}
+use Rattle.image.proofs.Lent.{generation_in}
+use Rattle.records.specs.Records.{Found}
+use Rattle.records.specs.Records.{place_in}
+use Rattle.settling.proofs.Additions.{none_found}
 use Rattle.settling.specs.Settling.{missing, adds, adds_one, added}
 
 -- The records added, as a chain over the members counts them.
@@ -48,5 +53,8 @@ pub valued_is : (m : List ℕ) → (get_or m 52 0 ≡ 0 → ⊥) → (member_of 
 valued_is m e = rw (ne_eqb (get_or m 52 0) 0 e)
 
 -- A value adds a record where its slot t has none.
-pub value_adds : (m : List ℕ) (t : Slot) (l : Layer) (b : Bool) → (get_or m 52 0 ≡ 0 → ⊥) → t ≡ slot_of m → is_some (find t l) ≡ b → not b ≡ adds_one (member_of m) l
+value_adds : (m : List ℕ) (t : Slot) (l : Layer) (b : Bool) → (get_or m 52 0 ≡ 0 → ⊥) → t ≡ slot_of m → is_some (find t l) ≡ b → not b ≡ adds_one (member_of m) l
 value_adds m t l b e p q = sym (ap₂ (λ (o : Option Value) (h : Bool). is_some o && not h) (valued_is m e) (ap (λ (x : Slot). is_some (find x l)) (sym p) ∙ q))
+
+pub adds_absent : (b m : List ℕ) (t : Slot) (f : Found) → Installed b → (get_or m 52 0 ≡ 0 → ⊥) → t ≡ slot_of m → f ≡ place_in t (generation_of b).top → is_err f ≡ adds_one (member_of m) (generation_of b).top
+adds_absent b m t f h e p q = none_found t (generation_of b).top f (generation_in b h).top.rises q ∙ value_adds m t (generation_of b).top _ e p refl

@@ -11,6 +11,7 @@ ghost use Rattle.settling.specs.Settling.{adds_one, added as added-by, Settled};
 use layers::LentGeneration;
 
 // Whether a member of a lent answer gives a value to a slot that has no record in the top.
+#[tactic(auto, using(crate::proofs::Members::adds_absent))]
 fn is_new(generation: LentGeneration, member: &[u8]) -> bool
     requires { length member.now ≡ 85 }
     ensures { result ≡ adds_one (member_of member.now) (generation_of generation.entry.bytes.now).top }
