@@ -9,7 +9,7 @@ use lib.Dec.{leb}
 use lib.ListN.{length, take, drop, length-drop}
 use lib.Seq.{drop-drop, get_or-drop}
 use borrow.Author.Tests.{leb-true}
-use Rattle.layout.specs.Layout.{awaiting_offset, awaiting_table, awaiting_table_size, ends_limit, ends_offset, ends_size, header_width, record_width, records_offset}
+use Rattle.layout.specs.Layout.{awaiting_offset, awaiting_table, awaiting_table_size, capacity_index, ends_limit, ends_offset, ends_size, header_width, record_width, records_offset}
 use Rattle.model.specs.Numbers.{num, Bytes}
 use Rattle.model.specs.Slots.{words_eqb}
 use Rattle.model.specs.Store.{Store}
@@ -19,7 +19,8 @@ use Rattle.image.specs.Image.{words_of, image_words, read_store, decode}
 use Rattle.image.proofs.Words.{length_words_of}
 use Rattle.checking.specs.Checks.{bytes_right, capacity_of}
 use Rattle.checking.proofs.Bools.{and_under}
-use Rattle.checking.proofs.Rows.{word_at, words_add, fit_words}
+use Rattle.records.proofs.Slots.{word_at}
+use Rattle.checking.proofs.Rows.{words_add, fit_words}
 use Rattle.checking.proofs.Law.{checks_law}
 
 -- The words of a store of capacity c, in four parts.
@@ -59,7 +60,7 @@ pub decode_law : (s : List ℕ) → Bytes s → is_some (decode s) ≡ (leb (8 *
 unfolding decode
 decode_law s b =
     let c : ℕ = capacity_of s in
-    let e : num (take 8 (drop 8 s)) ≡ c = sym (word_at header_width 1 s (omega arith)) in
+    let e : num (take 8 (drop 8 s)) ≡ c = sym (word_at header_width capacity_index 0 s (omega arith)) in
     let n : ℕ = store_words c in
     let st : Store = read_store (words_of n s) in
     ap (λ (x : ℕ). let ws : List ℕ = words_of (store_words x) s in is_some {T = Store} (cond (leb (8 * store_words x) (length s) && (well_formed (read_store ws) && words_eqb ws (image_words (read_store ws)))) (Some (read_store ws)) None)) e

@@ -6,7 +6,7 @@ use mathlib.Core.List.{List, [], ◌∷◌, ◌++◌, map}
 use native.Mathlib.Omega.{arith}
 use lib.Dec.{eqb}
 use Rattle.std.specs.List.{list_all, range_with_len}
-use lib.ListN.{length, take, drop, get_or, length-drop}
+use lib.ListN.{length, take, drop, length-drop}
 use lib.Seq.{drop-drop, take-add, get_or-drop, take_at, drop_at}
 use borrow.Author.Tests.{ne_eqb}
 use Rattle.layout.specs.Layout.{awaiting_size, awaiting_width, record_size, record_width, slot_width}
@@ -22,18 +22,6 @@ use Rattle.checking.specs.Checks.{all_zero, all_of, entries_rise_from, entries_r
 use Rattle.checking.proofs.Bools.{and_assoc}
 
 -- Words -----------------------------------------------------------------------------------------------
-
--- Word i of bytes, and of bytes from a place on.
-pub word_at : (n i : ℕ) (s : List ℕ) → i < n → get_or (words_of n s) i 0 ≡ num (take 8 (drop (8 * i) s))
-unfolding words_of
-word_at zero i s h = absurd (omega arith)
-word_at (suc n) zero s h = refl
-word_at (suc n) (suc i) s h =
-    let e : 8 + 8 * i ≡ 8 * suc i = omega arith in
-    word_at n i (drop 8 s) (omega arith) ∙ ap (λ (l : List ℕ). num (take 8 l)) (drop-drop (8 * i) 8 s ∙ ap (λ (k : ℕ). drop k s) e)
-
-pub word_from : (n at i : ℕ) (s : List ℕ) → i < n → get_or (words_of n (drop at s)) i 0 ≡ num (take 8 (drop (at + 8 * i) s))
-word_from n at i s h = word_at n i (drop at s) h ∙ ap (λ (l : List ℕ). num (take 8 l)) (drop-drop (8 * i) at s)
 
 -- Words before others.
 pub words_add : (m n : ℕ) (s : List ℕ) → words_of (m + n) s ≡ words_of m s ++ words_of n (drop (8 * m) s)
@@ -112,16 +100,16 @@ take_rows w (suc n) k s =
     let e : suc n + k ≡ suc (n + k) = omega arith in
     ap (λ (x : ℕ). take (suc n) (rows w x s)) e ∙ ap (λ (l : List (List ℕ)). words_of w s ∷ l) (take_rows w n k (drop (8 * w) s))
 
--- A test of every entry, by the numbers of the entries.
-all_numbered_from : (p : List ℕ → Bool) (w n i : ℕ) (s : List ℕ) → list_all (λ k. p (words_of w (drop (8 * w * k) s))) (range_with_len i n) ≡ all_of p (rows w n (drop (8 * w * i) s))
+-- A test of every entry from place `at` on, by the numbers of the entries.
+all_numbered_from : (p : List ℕ → Bool) (w n at i : ℕ) (s : List ℕ) → list_all (λ k. p (words_of w (drop (at + 8 * w * k) s))) (range_with_len i n) ≡ all_of p (rows w n (drop (at + 8 * w * i) s))
 unfolding all_of rows
-all_numbered_from p w zero i s = refl
-all_numbered_from p w (suc n) i s =
-    let e : 8 * w * i + 8 * w ≡ 8 * w * (i + 1) = omega arith in
-    ap (λ (t : Bool). p (words_of w (drop (8 * w * i) s)) && t) (all_numbered_from p w n (i + 1) s ∙ ap (λ (l : List ℕ). all_of p (rows w n l)) (sym (drop-drop (8 * w) (8 * w * i) s ∙ ap (λ (k : ℕ). drop k s) e)))
+all_numbered_from p w zero at i s = refl
+all_numbered_from p w (suc n) at i s =
+    let e : at + 8 * w * i + 8 * w ≡ at + 8 * w * (i + 1) = omega arith in
+    ap (λ (t : Bool). p (words_of w (drop (at + 8 * w * i) s)) && t) (all_numbered_from p w n at (i + 1) s ∙ ap (λ (l : List ℕ). all_of p (rows w n l)) (sym (drop-drop (8 * w) (at + 8 * w * i) s ∙ ap (λ (k : ℕ). drop k s) e)))
 
-pub all_numbered : (p : List ℕ → Bool) (w n : ℕ) (s : List ℕ) → list_all (λ k. p (words_of w (drop (8 * w * k) s))) (range_with_len 0 n) ≡ all_of p (rows w n s)
-all_numbered p w n s = let e : 8 * w * 0 ≡ 0 = omega arith in all_numbered_from p w n 0 s ∙ ap (λ (k : ℕ). all_of p (rows w n (drop k s))) e
+pub all_numbered : (p : List ℕ → Bool) (w n at : ℕ) (s : List ℕ) → list_all (λ k. p (words_of w (drop (at + 8 * w * k) s))) (range_with_len 0 n) ≡ all_of p (rows w n (drop at s))
+all_numbered p w n at s = let e : at + 8 * w * 0 ≡ at = omega arith in all_numbered_from p w n at 0 s ∙ ap (λ (k : ℕ). all_of p (rows w n (drop k s))) e
 
 -- Slots -----------------------------------------------------------------------------------------------
 

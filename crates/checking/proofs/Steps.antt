@@ -16,7 +16,7 @@ use Rattle.std.specs.Int.Bits.{or_zero_l}
 use Rattle.std.proofs.lemmas.Nat.{le_or_l, le_or_r}
 use Rattle.std.proofs.lemmas.Bool.Decides.{nat_tests}
 use borrow.Author.Tests.{leb-true}
-use Rattle.layout.specs.Layout.{awaiting_size, awaiting_width, record_size, record_width, slot_width, waiters_index}
+use Rattle.layout.specs.Layout.{awaiting_offset, awaiting_size, awaiting_width, record_size, record_width, slot_width, waiters_index}
 use Rattle.model.specs.declared.delta_snapshot.Slot.{Slot}
 use Rattle.model.specs.Slots.{slot_ltb}
 use Rattle.model.proofs.SlotLaws.{and_left, and_right, and_true}
@@ -124,20 +124,20 @@ ends_end n from k d l h =
 
 -- Entries ---------------------------------------------------------------------------------------------
 
--- The waiters of awaiting slot k, and of all slots by their numbers.
+-- The waiters of a store's awaiting slot k, and of all slots by their numbers.
 abbrev pub waiters_at : List ℕ → ℕ → ℕ
-waiters_at s k = get_or (words_of awaiting_width (drop (awaiting_size * k) s)) waiters_index 0
+waiters_at s k = get_or (words_of awaiting_width (drop (awaiting_offset + awaiting_size * k) s)) waiters_index 0
 
-waiters_from : (n i : ℕ) (s : List ℕ) → sum_by (waiters_at s) (range_with_len i n) ≡ waiters_sum (rows awaiting_width n (drop (awaiting_size * i) s))
+waiters_from : (n i : ℕ) (s : List ℕ) → sum_by (waiters_at s) (range_with_len i n) ≡ waiters_sum (rows awaiting_width n (drop (awaiting_offset + awaiting_size * i) s))
 unfolding waiters_sum rows
 waiters_from zero i s = refl
 waiters_from (suc n) i s =
-    let e : awaiting_size * i + awaiting_size ≡ awaiting_size * (i + 1) = omega arith in
+    let e : awaiting_offset + awaiting_size * i + awaiting_size ≡ awaiting_offset + awaiting_size * (i + 1) = omega arith in
     sum_by-cons (waiters_at s) i (range_with_len (i + 1) n)
-    ∙ ap (λ (w : ℕ). waiters_at s i + w) (waiters_from n (i + 1) s ∙ ap (λ (l : List ℕ). waiters_sum (rows awaiting_width n l)) (sym (drop-drop awaiting_size (awaiting_size * i) s ∙ ap (λ (k : ℕ). drop k s) e)))
+    ∙ ap (λ (w : ℕ). waiters_at s i + w) (waiters_from n (i + 1) s ∙ ap (λ (l : List ℕ). waiters_sum (rows awaiting_width n l)) (sym (drop-drop awaiting_size (awaiting_offset + awaiting_size * i) s ∙ ap (λ (k : ℕ). drop k s) e)))
 
-pub waiters_numbered : (n : ℕ) (s : List ℕ) → sum_by (waiters_at s) (range_with_len 0 n) ≡ waiters_sum (rows awaiting_width n s)
-waiters_numbered n s = let e : awaiting_size * 0 ≡ 0 = omega arith in waiters_from n 0 s ∙ ap (λ (k : ℕ). waiters_sum (rows awaiting_width n (drop k s))) e
+pub waiters_numbered : (n : ℕ) (s : List ℕ) → sum_by (waiters_at s) (range_with_len 0 n) ≡ waiters_sum (rows awaiting_width n (drop awaiting_offset s))
+waiters_numbered n s = let e : awaiting_offset + awaiting_size * 0 ≡ awaiting_offset = omega arith in waiters_from n 0 s ∙ ap (λ (k : ℕ). waiters_sum (rows awaiting_width n (drop k s))) e
 
 -- Right awaiting slots have few waiters.
 pub waiters_few : (es : List (List ℕ)) → all_of awaiting_right es ≡ true → waiters_sum es ≤ 4294967295 * length es

@@ -1,10 +1,10 @@
 // Are these bytes a store? The checks of its parts, one function each.
 #![tactic(auto)]
 
-ghost use Rattle.std.specs.Prelude.{◌≡◌, true, [], ◌∷◌, ℕ, suc, ◌+◌, ◌*◌, ◌^◌, ◌≤◌, ◌<◌, length, take, drop, get_or, SomeIff};
-ghost use Rattle.layout.specs.Layout.{awaiting_offset, awaiting_size, awaiting_table, awaiting_width, ends_limit, ends_offset, ends_size, header_width, record_size, record_width, records_offset, slot_size};
+ghost use Rattle.std.specs.Prelude.{◌≡◌, true, [], ◌∷◌, ℕ, suc, ◌+◌, ◌*◌, ◌^◌, ◌≤◌, ◌<◌, length, take, drop, get_or, slice_index, is_some, IfSome, SomeIff};
+ghost use Rattle.layout.specs.Layout.{awaiting_count_index, awaiting_offset, awaiting_size, awaiting_table, awaiting_width, depth_index, ends_limit, ends_offset, header_width, number_index, record_size, record_width, records_count_index, records_offset, slot_size};
 ghost use Rattle.image.specs.Image.{words_of};
-ghost use Rattle.checking.specs.Checks.{all_zero, all_of, normal, config_right, anchor_right, counts_right, totals_add_up, totals_right, ends_rise, ends_right, awaiting_right, waiters_sum, queue_right, reads_right, record_right, area_right, records_right, layers_rise, rows, slots_of, slots_rise};
+ghost use Rattle.checking.specs.Checks.{all_zero, all_of, normal, config_right, anchor_right, counts_right, totals_add_up, totals_right, ends_rise, ends_right, awaiting_right, waiters_sum, queue_right, reads_right, record_right, area_right, records_right, layers_rise, rows, slots_of, slots_rise, capacity_of, Sized};
 
 use model::read_hub::ReadTotals;
 
@@ -86,26 +86,6 @@ pub fn config_right(s: &[u8]) -> bool
         )
 }
 
-// Words 5 to 11.
-#[tactic(auto, using(std::proofs::lemmas::Bool::Decides::nat_tests), unfolding(crate::specs::Checks::anchor_right))]
-pub fn anchor_right(s: &[u8]) -> bool
-    requires { ends_offset ≤ length s.now }
-    ensures { result ≡ anchor_right (words_of header_width s.now) }
-{
-    word(s, 0, layout::INSTALLED_INDEX) == 1 && normal_words(s, 0, layout::HASH_INDEX)
-}
-
-// Words 12 to 14.
-#[tactic(auto, using(std::proofs::lemmas::Bool::Decides::nat_tests), unfolding(crate::specs::Checks::counts_right))]
-pub fn counts_right(s: &[u8]) -> bool
-    requires { ends_offset ≤ length s.now }
-    ensures { result ≡ counts_right (words_of header_width s.now) }
-{
-    word(s, 0, layout::DEPTH_INDEX) <= word(s, 0, layout::MAX_DEPTH_INDEX)
-        && word(s, 0, layout::RECORDS_COUNT_INDEX) <= word(s, 0, layout::CAPACITY_INDEX)
-        && word(s, 0, layout::AWAITING_COUNT_INDEX) <= layout::AWAITING_LIMIT as u64
-}
-
 // The reads by what became of them, if the sum fits.
 fn reads(t: ReadTotals) -> Option<u64>
     ensures { SomeIff result (t.served + t.waiting + t.valued + t.refused < 2 ^ 64) (t.served + t.waiting + t.valued + t.refused) }
@@ -136,41 +116,6 @@ fn totals_add_up(t: ReadTotals, w: u64, n: u64) -> bool
         && t.errors <= t.members
 }
 
-// Words 15 to 23.
-fn totals_right(s: &[u8], w: u64, n: u64) -> bool
-    requires { ends_offset ≤ length s.now }
-    ensures { result ≡ totals_right w n (words_of header_width s.now) }
-{
-    totals_add_up(totals::read_totals(s), w, n)
-}
-
-// Whether the ends of layers 0 to depth never fall, and are at most n.
-#[tactic(auto, using(std::proofs::lemmas::Bool::Decides::nat_tests, crate::proofs::Steps::ends_next, crate::proofs::Steps::ends_end, image::proofs::Words::length_words_of))]
-fn ends_rise(s: &[u8], depth: usize, n: u64) -> bool
-    requires { (depth ≤ 255) × (ends_size ≤ length s.now) }
-    ensures { result ≡ ends_rise n 0 (take (suc depth) (words_of ends_limit s.now)) }
-{
-    let mut from = 0;
-    for k in 0..depth + 1 {
-        let e = word(s, 0, k);
-        if e < from {
-            return false;
-        }
-        from = e;
-    }
-    from <= n
-}
-
-// The layer ends.
-#[tactic(auto, using(crate::proofs::Parts::ends_both))]
-pub fn ends_right(s: &[u8], depth: usize, n: u64) -> bool
-    requires { (depth ≤ 255) × (awaiting_offset ≤ length s.now) }
-    ensures { result ≡ ends_right depth n (words_of ends_limit (drop ends_offset s.now)) }
-{
-    ends_rise(&s[layout::ENDS_OFFSET..], depth, n)
-        && zero(s, SECOND_END_OFFSET + 8 * depth, layout::AWAITING_OFFSET)
-}
-
 // The test of an awaiting slot.
 #[tactic(auto, using(std::proofs::lemmas::Bool::Decides::nat_tests), unfolding(crate::specs::Checks::awaiting_right))]
 fn awaiting_right(s: &[u8], at: usize) -> bool
@@ -185,49 +130,6 @@ fn awaiting_right(s: &[u8], at: usize) -> bool
         && word(s, at, layout::SECOND_WAITERS_INDEX) == 0
 }
 
-// Whether each of n awaiting slots is right by itself.
-fn awaiting_all(s: &[u8], n: usize) -> bool
-    requires { (n ≤ 64) × (awaiting_size * n ≤ length s.now) }
-    ensures { result ≡ all_of awaiting_right (rows awaiting_width n s.now) }
-{
-    (0..n).all(|i| awaiting_right(s, layout::AWAITING_SIZE * i))
-}
-
-// The waiters of n awaiting slots.
-fn waiters(s: &[u8], n: usize) -> u64
-    requires { (n ≤ 64) × (awaiting_size * n ≤ length s.now) × (all_of awaiting_right (rows awaiting_width n s.now) ≡ true) }
-    ensures { result ≡ waiters_sum (rows awaiting_width n s.now) }
-{
-    (0..n)
-        .map(|i| word(s, layout::AWAITING_SIZE * i, layout::WAITERS_INDEX))
-        .sum()
-}
-
-// The awaiting slots.
-#[tactic(auto, using(crate::proofs::Parts::queue_all))]
-fn queue_right(s: &[u8], n: usize) -> bool
-    requires { (n ≤ 64) × (records_offset ≤ length s.now) }
-    ensures { result ≡ queue_right n (words_of awaiting_table (drop awaiting_offset s.now)) }
-{
-    let slots = &s[layout::AWAITING_OFFSET..];
-    awaiting_all(slots, n)
-        && rises(slots, layout::AWAITING_SIZE, 0, n)
-        && zero(
-            s,
-            layout::AWAITING_OFFSET + layout::AWAITING_SIZE * n,
-            layout::RECORDS_OFFSET,
-        )
-}
-
-// The awaiting slots and the read totals.
-#[tactic(auto, using(crate::proofs::Parts::reads_both, crate::proofs::Parts::queue_rows))]
-pub fn reads_right(s: &[u8], n: usize) -> bool
-    requires { (n ≤ 64) × (records_offset ≤ length s.now) }
-    ensures { result ≡ reads_right n (words_of header_width s.now) (words_of awaiting_table (drop awaiting_offset s.now)) }
-{
-    queue_right(s, n) && totals_right(s, waiters(&s[layout::AWAITING_OFFSET..], n), n as u64)
-}
-
 // The test of a record by itself.
 #[tactic(auto, using(std::proofs::lemmas::Bool::Decides::nat_tests, crate::proofs::Parts::record_words_right, image::proofs::Words::length_words_of))]
 fn record_right(s: &[u8], at: usize, number: u64) -> bool
@@ -240,56 +142,219 @@ fn record_right(s: &[u8], at: usize, number: u64) -> bool
         && word(s, at, layout::LAST_USE_INDEX) <= number
 }
 
-// Whether each of n records is right by itself.
-fn records_all(s: &[u8], n: usize, number: u64) -> bool
-    requires { record_size * n ≤ length s.now }
-    ensures { result ≡ all_of (record_right number) (rows record_width n s.now) }
-{
-    (0..n).all(|i| record_right(s, layout::RECORD_SIZE * i, number))
+// Bytes as long as a store of the capacity that they name.
+#[derive(Clone, Copy)]
+pub struct SizedBytes<'a> {
+    pub bytes: &'a [u8],
+    pub ghost sized: { Sized bytes.now },
+    pub ghost are_bytes: { (i : ℕ) → slice_index bytes.now i < 2 ^ 8 },
 }
 
-// The record area of a capacity.
-fn area_right(s: &[u8], capacity: usize, n: usize, number: u64) -> bool
-    requires { (n ≤ capacity) × (capacity ≤ 4096) × (records_offset + record_size * capacity ≤ length s.now) }
-    ensures { result ≡ area_right number n (words_of (record_width * capacity) (drop records_offset s.now)) }
-{
-    records_all(&s[layout::RECORDS_OFFSET..], n, number)
-        && zero(
-            s,
-            layout::RECORDS_OFFSET + layout::RECORD_SIZE * n,
-            layout::RECORDS_OFFSET + layout::RECORD_SIZE * capacity,
-        )
-}
-
-// Whether each layer and the top rise, of the layer ends' bytes and the records' bytes.
-#[tactic(auto, using(std::proofs::lemmas::Bool::Decides::nat_tests, crate::proofs::Steps::layers_next, crate::proofs::Steps::next_end, crate::proofs::Steps::layers_end, image::proofs::Words::length_words_of))]
-fn layers_rise(ends: &[u8], s: &[u8], depth: usize, n: usize) -> bool
-    requires depth_bound { (depth ≤ 255) × (ends_size ≤ length ends.now) × (record_size * n ≤ length s.now) }
-    requires ends_value { ends_rise n 0 (take (suc depth) (words_of ends_limit ends.now)) ≡ true }
-    ensures { result ≡ layers_rise 0 (take (suc depth) (words_of ends_limit ends.now)) (rows record_width n s.now) }
-{
-    let mut from = 0;
-    for k in 0..depth + 1 {
-        let e = word(ends, 0, k) as usize;
-        if !rises(s, layout::RECORD_SIZE, from, e) {
-            return false;
-        }
-        from = e;
+impl<'a> SizedBytes<'a> {
+    // Words 5 to 11.
+    #[tactic(auto, using(std::proofs::lemmas::Bool::Decides::nat_tests), unfolding(crate::specs::Checks::anchor_right))]
+    pub fn anchor_right(self) -> bool
+        ensures { result ≡ anchor_right (words_of header_width self.entry.bytes.now) }
+    {
+        word(self.bytes, 0, layout::INSTALLED_INDEX) == 1
+            && normal_words(self.bytes, 0, layout::HASH_INDEX)
     }
-    rises(s, layout::RECORD_SIZE, from, n)
+
+    // Words 12 to 14, if they are within their limits.
+    #[tactic(auto, using(std::proofs::lemmas::Bool::Decides::nat_tests), unfolding(crate::specs::Checks::counts_right))]
+    pub fn counts(self) -> Option<Counted<'a>>
+        ensures is_right { is_some result ≡ counts_right (words_of header_width self.entry.bytes.now) }
+        ensures same { IfSome result (λ c. c.bytes.now ≡ self.entry.bytes.now) }
+    {
+        let capacity = word(self.bytes, 0, layout::CAPACITY_INDEX);
+        let depth = word(self.bytes, 0, layout::DEPTH_INDEX);
+        let records = word(self.bytes, 0, layout::RECORDS_COUNT_INDEX);
+        let awaiting = word(self.bytes, 0, layout::AWAITING_COUNT_INDEX);
+        if depth > word(self.bytes, 0, layout::MAX_DEPTH_INDEX)
+            || records > capacity
+            || awaiting > layout::AWAITING_LIMIT as u64
+        {
+            return None;
+        }
+        Some(Counted {
+            bytes: self.bytes,
+            capacity: capacity as usize,
+            depth: depth as usize,
+            records: records as usize,
+            awaiting: awaiting as usize,
+        })
+    }
 }
 
-// The records by themselves and in their layers.
-pub fn records_right(s: &[u8], capacity: usize, depth: usize, n: usize, number: u64) -> bool
-    requires n_le_capacity { (n ≤ capacity) × (capacity ≤ 4096) × (records_offset + record_size * capacity ≤ length s.now) × (depth ≤ 255) }
-    requires s_value { ends_rise n 0 (take (suc depth) (words_of ends_limit (drop ends_offset s.now))) ≡ true }
-    ensures { result ≡ records_right number depth n (words_of ends_limit (drop ends_offset s.now)) (words_of (record_width * capacity) (drop records_offset s.now)) }
-{
-    area_right(s, capacity, n, number)
-        && layers_rise(
-            &s[layout::ENDS_OFFSET..],
-            &s[layout::RECORDS_OFFSET..],
-            depth,
-            n,
-        )
+// Such bytes and what their header counts, each within its limit.
+#[derive(Clone, Copy)]
+pub struct Counted<'a> {
+    pub bytes: &'a [u8],
+    pub capacity: usize,
+    pub depth: usize,
+    pub records: usize,
+    pub awaiting: usize,
+    pub ghost capacity_is: { capacity ≡ capacity_of bytes.now },
+    pub ghost depth_is: { depth ≡ get_or (words_of header_width bytes.now) depth_index 0 },
+    pub ghost records_is: { records ≡ get_or (words_of header_width bytes.now) records_count_index 0 },
+    pub ghost awaiting_is: { awaiting ≡ get_or (words_of header_width bytes.now) awaiting_count_index 0 },
+    pub ghost shallow: { depth ≤ 255 },
+    pub ghost few: { (records ≤ capacity) × (capacity ≤ 4096) },
+    pub ghost short: { awaiting ≤ 64 },
+    pub ghost within: { records_offset + record_size * capacity ≤ length bytes.now },
+    pub ghost are_bytes: { (i : ℕ) → slice_index bytes.now i < 2 ^ 8 },
+}
+
+impl<'a> Counted<'a> {
+    // The installed number.
+    pub fn number(self) -> u64
+        ensures { result ≡ get_or (words_of header_width self.entry.bytes.now) number_index 0 }
+    {
+        word(self.bytes, 0, layout::NUMBER_INDEX)
+    }
+
+    // Words 15 to 23, with w waiters.
+    fn totals_right(self, w: u64) -> bool
+        ensures { result ≡ totals_right w self.entry.awaiting (words_of header_width self.entry.bytes.now) }
+    {
+        totals_add_up(totals::read_totals(self.bytes), w, self.awaiting as u64)
+    }
+
+    // Whether the ends of layers 0 to depth never fall, and are at most the number of records.
+    #[tactic(auto, using(std::proofs::lemmas::Bool::Decides::nat_tests, crate::proofs::Steps::ends_next, crate::proofs::Steps::ends_end, image::proofs::Words::length_words_of))]
+    fn ends_rise(self) -> bool
+        ensures { result ≡ ends_rise self.entry.records 0 (take (suc self.entry.depth) (words_of ends_limit (drop ends_offset self.entry.bytes.now))) }
+    {
+        let mut from = 0;
+        for k in 0..self.depth + 1 {
+            let e = word(self.bytes, layout::ENDS_OFFSET, k);
+            if e < from {
+                return false;
+            }
+            from = e;
+        }
+        from <= self.records as u64
+    }
+
+    // The layer ends.
+    #[tactic(auto, using(crate::proofs::Parts::ends_both))]
+    pub fn ends_right(self) -> bool
+        ensures { result ≡ ends_right self.entry.depth self.entry.records (words_of ends_limit (drop ends_offset self.entry.bytes.now)) }
+    {
+        self.ends_rise()
+            && zero(
+                self.bytes,
+                SECOND_END_OFFSET + 8 * self.depth,
+                layout::AWAITING_OFFSET,
+            )
+    }
+
+    // Whether each awaiting slot is right by itself.
+    fn awaiting_all(self) -> bool
+        ensures { result ≡ all_of awaiting_right (rows awaiting_width self.entry.awaiting (drop awaiting_offset self.entry.bytes.now)) }
+    {
+        (0..self.awaiting).all(|i| {
+            awaiting_right(
+                self.bytes,
+                layout::AWAITING_OFFSET + layout::AWAITING_SIZE * i,
+            )
+        })
+    }
+
+    // The waiters of all awaiting slots.
+    fn waiters(self) -> u64
+        requires { all_of awaiting_right (rows awaiting_width self.awaiting (drop awaiting_offset self.bytes.now)) ≡ true }
+        ensures { result ≡ waiters_sum (rows awaiting_width self.entry.awaiting (drop awaiting_offset self.entry.bytes.now)) }
+    {
+        (0..self.awaiting)
+            .map(|i| {
+                word(
+                    self.bytes,
+                    layout::AWAITING_OFFSET + layout::AWAITING_SIZE * i,
+                    layout::WAITERS_INDEX,
+                )
+            })
+            .sum()
+    }
+
+    // The awaiting slots.
+    #[tactic(auto, using(crate::proofs::Parts::queue_all))]
+    fn queue_right(self) -> bool
+        ensures { result ≡ queue_right self.entry.awaiting (words_of awaiting_table (drop awaiting_offset self.entry.bytes.now)) }
+    {
+        self.awaiting_all()
+            && rises(
+                &self.bytes[layout::AWAITING_OFFSET..],
+                layout::AWAITING_SIZE,
+                0,
+                self.awaiting,
+            )
+            && zero(
+                self.bytes,
+                layout::AWAITING_OFFSET + layout::AWAITING_SIZE * self.awaiting,
+                layout::RECORDS_OFFSET,
+            )
+    }
+
+    // The awaiting slots and the read totals.
+    #[tactic(auto, using(crate::proofs::Parts::reads_both, crate::proofs::Parts::queue_rows))]
+    pub fn reads_right(self) -> bool
+        ensures { result ≡ reads_right self.entry.awaiting (words_of header_width self.entry.bytes.now) (words_of awaiting_table (drop awaiting_offset self.entry.bytes.now)) }
+    {
+        self.queue_right() && self.totals_right(self.waiters())
+    }
+
+    // Whether each record is right by itself.
+    fn records_all(self) -> bool
+        ensures { result ≡ all_of (record_right (get_or (words_of header_width self.entry.bytes.now) number_index 0)) (rows record_width self.entry.records (drop records_offset self.entry.bytes.now)) }
+    {
+        let number = self.number();
+        (0..self.records).all(|i| {
+            record_right(
+                self.bytes,
+                layout::RECORDS_OFFSET + layout::RECORD_SIZE * i,
+                number,
+            )
+        })
+    }
+
+    // The record area.
+    #[tactic(auto, using(crate::proofs::Parts::area_both))]
+    fn area_right(self) -> bool
+        ensures { result ≡ area_right (get_or (words_of header_width self.entry.bytes.now) number_index 0) self.entry.records (words_of (record_width * self.entry.capacity) (drop records_offset self.entry.bytes.now)) }
+    {
+        self.records_all()
+            && zero(
+                self.bytes,
+                layout::RECORDS_OFFSET + layout::RECORD_SIZE * self.records,
+                layout::RECORDS_OFFSET + layout::RECORD_SIZE * self.capacity,
+            )
+    }
+
+    // Whether the records of each layer and of the top rise.
+    #[tactic(auto, using(std::proofs::lemmas::Bool::Decides::nat_tests, crate::proofs::Parts::next_layer, crate::proofs::Parts::last_layer, crate::proofs::Steps::next_end, image::proofs::Words::length_words_of))]
+    fn layers_rise(self) -> bool
+        requires { ends_rise self.records 0 (take (suc self.depth) (words_of ends_limit (drop ends_offset self.bytes.now))) ≡ true }
+        ensures { result ≡ layers_rise 0 (take (suc self.entry.depth) (words_of ends_limit (drop ends_offset self.entry.bytes.now))) (rows record_width self.entry.records (drop records_offset self.entry.bytes.now)) }
+    {
+        let records = &self.bytes[layout::RECORDS_OFFSET..];
+        let mut from = 0;
+        for k in 0..self.depth + 1 {
+            let e = word(self.bytes, layout::ENDS_OFFSET, k) as usize;
+            if !rises(records, layout::RECORD_SIZE, from, e) {
+                return false;
+            }
+            from = e;
+        }
+        rises(records, layout::RECORD_SIZE, from, self.records)
+    }
+
+    // The records by themselves and in their layers.
+    #[tactic(auto, using(crate::proofs::Parts::records_both))]
+    pub fn records_right(self) -> bool
+        requires { ends_rise self.records 0 (take (suc self.depth) (words_of ends_limit (drop ends_offset self.bytes.now))) ≡ true }
+        ensures { result ≡ records_right (get_or (words_of header_width self.entry.bytes.now) number_index 0) self.entry.depth self.entry.records (words_of ends_limit (drop ends_offset self.entry.bytes.now)) (words_of (record_width * self.entry.capacity) (drop records_offset self.entry.bytes.now)) }
+    {
+        self.area_right() && self.layers_rise()
+    }
 }

@@ -1,8 +1,8 @@
--- `checking::totals_right` meets its contract.
+-- `checking::Counted::totals_right` meets its contract.
 use lib.Seq.{get_or-drop}
 use Rattle.totals.specs.Totals.{totals_of}
 use Rattle.checking.specs.Checks.{totals_right}
-use Rattle.checking.proofs.totals_right.Goals as goal
+use Rattle.checking.proofs.Counted.totals_right.Goals as goal
 
 pub returns : goal.returns
 unfolding totals_of totals_right
