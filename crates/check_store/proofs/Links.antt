@@ -2,7 +2,7 @@
 use Rattle.std.specs.Prelude.{is_some}
 use Prim.Native.Nat.{ℕ, suc, ◌+◌, ◌-◌, ◌*◌, ◌≤◌, ◌<◌}
 use mathlib.Core.Path.{◌≡◌, refl, sym, ap, ap₂, ◌∙◌}
-use mathlib.Core.Bool.{Bool, true, false, ◌&&◌, cond}
+use mathlib.Core.Bool.{true, false, ◌&&◌, cond}
 use mathlib.Core.List.{List, [], ◌∷◌, map}
 use native.Mathlib.Omega.{arith}
 use lib.Dec.{eqb, leb, ltb}
@@ -23,7 +23,8 @@ use Rattle.image.proofs.Words.{length_words_of}
 use Rattle.image.proofs.Entries.{length_ends}
 use Rattle.rules.specs.Rules.{cross_rules, all_rising}
 use Rattle.rules.proofs.LayerLaws.{rules_mean}
-use Rattle.checking.specs.Checks.{all_zero, config_right, anchor_right, counts_right, ends_rise, ends_right, reads_right, area_right, records_right, layers_rise, cross_right, parts_right, rules_right, store_right, bytes_right, capacity_of, Sized, parts_in, rules_in, rows}
+use Rattle.checking.specs.declared.Counted.{Counted}
+use Rattle.checking.specs.Checks.{all_zero, config_right, anchor_right, counts_right, ends_rise, ends_right, reads_right, area_right, records_right, layers_rise, cross_right, parts_right, rules_right, store_right, bytes_right, capacity_of, parts_in, rules_in, rows}
 use Rattle.checking.proofs.Bools.{length_entries}
 use Rattle.checking.proofs.Cuts.{CutSays, cut_says, length_cut, all_rising_cut}
 use Rattle.checking.proofs.Parts.{rest, rows_area}
@@ -31,20 +32,6 @@ use Rattle.checking.proofs.Steps.{zero_tail}
 use Rattle.checking.proofs.Decode.{four_parts, decode_law}
 
 -- A generation's parts ----------------------------------------------------------------------------------
-
--- The counts are within their limits.
-pub record Counts (h : List ℕ) : Type 0 where
-  pub depth : get_or h depth_index 0 ≤ get_or h max_depth_index 0
-  pub records : get_or h records_count_index 0 ≤ get_or h capacity_index 0
-  pub awaiting : get_or h awaiting_count_index 0 ≤ 64
-
-pub counts_say : (h : List ℕ) → counts_right h ≡ true → Counts h
-unfolding counts_right
-counts_say h e =
-    let x : Bool = leb (get_or h depth_index 0) (get_or h max_depth_index 0) in
-    let y : Bool = leb (get_or h records_count_index 0) (get_or h capacity_index 0) in
-    let z : Bool = leb (get_or h awaiting_count_index 0) 64 in
-    record { depth = leb-true _ _ (and_left x _ e); records = leb-true _ _ (and_left y z (and_right x _ e)); awaiting = leb-true _ _ (and_right y z (and_right x _ e)) }
 
 pub ends_say : (d n : ℕ) (l : List ℕ) → ends_right d n l ≡ true → ends_rise n 0 (take (suc d) l) ≡ true
 unfolding ends_right
@@ -74,7 +61,6 @@ cross_law R number d n E es h j e r =
 
 -- What the checks of the parts say of the records.
 record Records (s : List ℕ) : Type 0 where
-  counts : Counts (words_of header_width s)
   ends : ends_rise (get_or (words_of header_width s) records_count_index 0) 0 (take (suc (get_or (words_of header_width s) depth_index 0)) (words_of ends_limit (drop ends_offset s))) ≡ true
   rise : layers_rise 0 (take (suc (get_or (words_of header_width s) depth_index 0)) (words_of ends_limit (drop ends_offset s))) (entries record_width (get_or (words_of header_width s) records_count_index 0) (words_of (record_width * capacity_of s) (drop records_offset s))) ≡ true
 
@@ -88,31 +74,33 @@ records_say s e =
     let e₃ = and_right (ends_right (get_or h depth_index 0) (get_or h records_count_index 0) E) _ e₂ in
     let e₄ = and_right (reads_right (get_or h awaiting_count_index 0) h (words_of awaiting_table (drop awaiting_offset s))) _ e₃ in
     record {
-      counts = counts_say h (and_left (counts_right h) _ e₁);
       ends = ends_say (get_or h depth_index 0) (get_or h records_count_index 0) E (and_left (ends_right (get_or h depth_index 0) (get_or h records_count_index 0) E) _ e₂);
       rise = and_right (area_right (get_or h number_index 0) (get_or h records_count_index 0) (words_of (record_width * capacity_of s) (drop records_offset s))) _ e₄;
     }
 
-pub parts_counts : (s : List ℕ) → parts_in s ≡ true → Counts (words_of header_width s)
-parts_counts s e = (records_say s e).counts
-
 -- The rules, of the numbers that were read.
-pub rules_law : (s : List ℕ) (d n top f idle number : ℕ) → Sized s → parts_in s ≡ true → d ≡ get_or (words_of header_width s) depth_index 0 → n ≡ get_or (words_of header_width s) records_count_index 0 → top ≡ get_or (words_of ends_limit (drop ends_offset s)) d 0 → f ≡ get_or (words_of header_width s) retention_index 0 → idle ≡ get_or (words_of header_width s) idle_index 0 → number ≡ get_or (words_of header_width s) number_index 0 →
-    cross_rules (cond (eqb f 0) Unbounded (IdleBlocks idle)) number top (records_of n (take (length s - records_offset) (drop records_offset s))) ≡ rules_in s
-unfolding rules_right records_of
-rules_law s d n top f idle number z e pd pn pt pf pi pu =
+pub rules_law : (c : Counted) (top f idle number : ℕ) →
+    let s : List ℕ = c.bytes.now in
     let h : List ℕ = words_of header_width s in
+    parts_in s ≡ true → top ≡ get_or (words_of ends_limit (drop ends_offset s)) c.depth 0 → f ≡ get_or h retention_index 0 → idle ≡ get_or h idle_index 0 → number ≡ get_or h number_index 0 →
+    cross_rules (cond (eqb f 0) Unbounded (IdleBlocks idle)) number top (records_of c.records (take (length s - records_offset) (drop records_offset s))) ≡ rules_in s
+unfolding rules_right records_of
+rules_law c top f idle number e pt pf pi pu =
+    let s : List ℕ = c.bytes.now in
+    let h : List ℕ = words_of header_width s in
+    let n : ℕ = c.records in
     let E : List ℕ = words_of ends_limit (drop ends_offset s) in
     let area : List ℕ = drop records_offset s in
     let k : Records s = records_say s e in
-    let c : Counts h = k.counts in
-    let R : Retention = read_retention (drop 3 h) in
-    let kept : cond (eqb f 0) Unbounded (IdleBlocks idle) ≡ R = ap₂ (λ (x y : ℕ). cond (eqb x 0) Unbounded (IdleBlocks y)) (pf ∙ sym (get_or-drop 3 h 0 0)) (pi ∙ sym (get_or-drop 3 h 1 0)) in
+    let R : Retention = read_retention (drop retention_index h) in
+    let room : get_or h records_count_index 0 ≤ capacity_of s = omega (arith, c.few, c.records_is, c.capacity_is) in
+    let deep : get_or h depth_index 0 < length E = omega (arith, c.shallow, c.depth_is, length_words_of ends_limit (drop ends_offset s)) in
+    let kept : cond (eqb f 0) Unbounded (IdleBlocks idle) ≡ R = ap₂ (λ (x y : ℕ). cond (eqb x 0) Unbounded (IdleBlocks y)) (pf ∙ sym (get_or-drop retention_index h 0 0)) (pi ∙ sym (get_or-drop retention_index h 1 0)) in
     let es : entries record_width n (words_of (record_width * n) (take (length s - records_offset) (drop records_offset s))) ≡ entries record_width (get_or h records_count_index 0) (words_of (record_width * capacity_of s) area) =
-    ap (λ (l : List ℕ). entries record_width n (words_of (record_width * n) l)) (rest records_offset s) ∙ rows_area n n area (omega arith) ∙ ap (λ (x : ℕ). rows record_width x area) pn ∙ sym (rows_area (get_or h records_count_index 0) (capacity_of s) area (omega arith)) in
+    ap (λ (l : List ℕ). entries record_width n (words_of (record_width * n) l)) (rest records_offset s) ∙ rows_area n n area (omega arith) ∙ ap (λ (x : ℕ). rows record_width x area) c.records_is ∙ sym (rows_area (get_or h records_count_index 0) (capacity_of s) area room) in
     ap₂ (λ (x : Retention) (y : List (List ℕ)). cross_rules x number top (map read_record y)) kept es
-    ∙ ap₂ (λ (x y : ℕ). cross_rules R x y (map read_record (entries record_width (get_or h records_count_index 0) (words_of (record_width * capacity_of s) area)))) pu (pt ∙ ap (λ (x : ℕ). get_or E x 0) pd)
-    ∙ cross_law R (get_or h number_index 0) (get_or h depth_index 0) (get_or h records_count_index 0) E (entries record_width (get_or h records_count_index 0) (words_of (record_width * capacity_of s) area)) (length_entries record_width (get_or h records_count_index 0) _) (omega (arith, length_words_of ends_limit (drop ends_offset s))) k.ends k.rise
+    ∙ ap₂ (λ (x y : ℕ). cross_rules R x y (map read_record (entries record_width (get_or h records_count_index 0) (words_of (record_width * capacity_of s) area)))) pu (pt ∙ ap (λ (x : ℕ). get_or E x 0) c.depth_is)
+    ∙ cross_law R (get_or h number_index 0) (get_or h depth_index 0) (get_or h records_count_index 0) E (entries record_width (get_or h records_count_index 0) (words_of (record_width * capacity_of s) area)) (length_entries record_width (get_or h records_count_index 0) _) deep k.ends k.rise
 
 -- The store ---------------------------------------------------------------------------------------------
 

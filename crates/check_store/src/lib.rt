@@ -1,61 +1,56 @@
 // Are these bytes a store? The checks in their order.
 #![tactic(auto)]
 
-ghost use Rattle.std.specs.Prelude.{◌≡◌, true, ◌&&◌, is_some};
+ghost use Rattle.std.specs.Prelude.{◌≡◌, true, ◌&&◌, is_some, IfSome};
 ghost use Rattle.image.specs.Image.{decode};
-ghost use Rattle.checking.specs.Checks.{Sized, parts_in, rules_in};
+ghost use Rattle.checking.specs.Checks.{parts_in, rules_in};
 
+use checking::{Counted, SizedBytes};
 use model::delta_snapshot::Retention;
 use order::Records;
 
 // All checks of an installed generation but the rules across layers.
-#[tactic(auto, using(crate::proofs::Links::counts_say, crate::proofs::Links::ends_say), unfolding(checking::specs::Checks::parts_right))]
-fn parts_right(s: &[u8]) -> bool
-    requires { Sized s.now }
-    ensures { result ≡ parts_in s.now }
+#[tactic(auto, using(crate::proofs::Links::ends_say), unfolding(checking::specs::Checks::parts_right))]
+fn parts_right(sized: SizedBytes) -> Option<Counted>
+    ensures is_right { is_some result ≡ parts_in sized.entry.bytes.now }
+    ensures same { IfSome result (λ c. c.bytes.now ≡ sized.entry.bytes.now) }
 {
-    let capacity = checking::word(s, 0, layout::CAPACITY_INDEX) as usize;
-    let number = checking::word(s, 0, layout::NUMBER_INDEX);
-    let depth = checking::word(s, 0, layout::DEPTH_INDEX) as usize;
-    let n = checking::word(s, 0, layout::RECORDS_COUNT_INDEX);
-    let awaiting = checking::word(s, 0, layout::AWAITING_COUNT_INDEX) as usize;
-    checking::anchor_right(s)
-        && checking::counts_right(s)
-        && checking::ends_right(s, depth, n)
-        && checking::reads_right(s, awaiting)
-        && checking::records_right(s, capacity, depth, n as usize, number)
+    if !sized.anchor_right() {
+        return None;
+    }
+    let counted = sized.counts()?;
+    if counted.ends_right() && counted.reads_right() && counted.records_right() {
+        Some(counted)
+    } else {
+        None
+    }
 }
 
 // The rules across layers. The top begins at the end of the base's last layer.
-fn rules_right(s: &[u8]) -> bool
-    requires { Sized s.now × (parts_in s.now ≡ true) }
-    ensures { result ≡ rules_in s.now }
+fn rules_right(counted: Counted) -> bool
+    requires { parts_in counted.bytes.now ≡ true }
+    ensures { result ≡ rules_in counted.entry.bytes.now }
 {
-    let depth = checking::word(s, 0, layout::DEPTH_INDEX) as usize;
-    let n = checking::word(s, 0, layout::RECORDS_COUNT_INDEX) as usize;
-    let top = checking::word(s, layout::ENDS_OFFSET, depth) as usize;
+    let top = checking::word(counted.bytes, layout::ENDS_OFFSET, counted.depth) as usize;
     let kept = Retention::of_words(
-        checking::word(s, 0, layout::RETENTION_INDEX),
-        checking::word(s, 0, layout::IDLE_INDEX),
+        checking::word(counted.bytes, 0, layout::RETENTION_INDEX),
+        checking::word(counted.bytes, 0, layout::IDLE_INDEX),
     );
     let records = Records {
-        bytes: &s[layout::RECORDS_OFFSET..],
-        count: n,
+        bytes: &counted.bytes[layout::RECORDS_OFFSET..],
+        count: counted.records,
     };
-    rules::cross_rules(
-        records,
-        top,
-        kept,
-        checking::word(s, 0, layout::NUMBER_INDEX),
-    )
+    rules::cross_rules(records, top, kept, counted.number())
 }
 
 // An installed generation.
-fn installed_right(s: &[u8]) -> bool
-    requires { Sized s.now }
-    ensures { result ≡ (parts_in s.now && rules_in s.now) }
+fn installed_right(sized: SizedBytes) -> bool
+    ensures { result ≡ (parts_in sized.entry.bytes.now && rules_in sized.entry.bytes.now) }
 {
-    parts_right(s) && rules_right(s)
+    match parts_right(sized) {
+        Some(counted) => rules_right(counted),
+        None => false,
+    }
 }
 
 // Whether bytes are a store: they begin with the image of the well-formed state that they read as.
@@ -73,6 +68,7 @@ pub fn is_store(s: &[u8]) -> bool
     } else if checking::word(s, 0, layout::INSTALLED_INDEX) == 0 {
         checking::zero(s, layout::INSTALLED_OFFSET, size)
     } else {
-        installed_right(s)
+        let sized = SizedBytes { bytes: s };
+        installed_right(sized)
     }
 }
