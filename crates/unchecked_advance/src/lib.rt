@@ -8,7 +8,6 @@ ghost use Rattle.model.specs.Advance.{skip_of};
 ghost use Rattle.model.specs.Store as calls;
 ghost use Rattle.model.specs.Store.{cold_advance, carry, already_current, perform};
 ghost use Rattle.model.specs.Refusals.{store_size, ok};
-ghost use Rattle.image.specs.WellFormed.{anchor_fits};
 ghost use Rattle.words.specs.Parts.{placed};
 ghost use Rattle.image.specs.Image.{bytes_step};
 ghost use Rattle.image.specs.Lent.{store_of, generation_of, IsStore, Installed};
@@ -130,7 +129,7 @@ fn cold(
     work: &mut [u8],
     out: &mut [u8],
 ) -> AdvanceReply
-    requires { IsStore s.old × (anchor_fits child ≡ true) × (store_size (store_of s.old).config.capacity ≤ length work.old) × (length writes.now / 84 * 52 ≤ length out.old) }
+    requires { IsStore s.old × (store_size (store_of s.old).config.capacity ≤ length work.old) × (length writes.now / 84 * 52 ≤ length out.old) }
     ensures { (k : ℕ) → skip ≡ skip_of k → AdvancedAs result s.new out.new (ended (store_of s.old).config (cold_advance (store_of s.old).config child lineage (lent_prepared k addresses.now writes.now)) s.old) out.old }
 {
     seal::begin_cold(LentStore { bytes: s }, work, child);
@@ -161,7 +160,7 @@ fn carried(
     work: &mut [u8],
     out: &mut [u8],
 ) -> AdvanceReply
-    requires { Installed s.old × (anchor_fits child ≡ true) × (child.number ≡ suc (generation_of s.old).anchor.number) × (store_size (store_of s.old).config.capacity ≤ length work.old) × (length writes.now / 84 * 52 ≤ length out.old) }
+    requires { Installed s.old × (child.number ≡ suc (generation_of s.old).anchor.number) × (store_size (store_of s.old).config.capacity ≤ length work.old) × (length writes.now / 84 * 52 ≤ length out.old) }
     ensures { (k : ℕ) → AdvancedAs result s.new out.new (ended (store_of s.old).config (carry (store_of s.old).config (generation_of s.old) child (lent_prepared k addresses.now writes.now)) s.old) out.old }
 {
     let compaction = seal::begin_carried(LentGeneration { bytes: s }, work, child);
@@ -212,7 +211,7 @@ fn proceed(
     work: &mut [u8],
     out: &mut [u8],
 ) -> AdvanceReply
-    requires { IsStore s.old × (anchor_fits child ≡ true) × (store_size (store_of s.old).config.capacity ≤ length work.old) × (length writes.now / 84 * 52 ≤ length out.old) }
+    requires { IsStore s.old × (store_size (store_of s.old).config.capacity ≤ length work.old) × (length writes.now / 84 * 52 ≤ length out.old) }
     ensures { (k : ℕ) → skip ≡ skip_of k → AdvancedAs result s.new out.new (ended (store_of s.old).config (perform (store_of s.old).config (store_of s.old).installed (calls.advance child parent_hash (lent_prepared k addresses.now writes.now))) s.old) out.old }
 {
     let store = LentStore { bytes: s };

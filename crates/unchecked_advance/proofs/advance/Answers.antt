@@ -2,7 +2,6 @@
 use mathlib.Core.Path.{sym, ◌∙◌}
 use Rattle.std.proofs.lemmas.Result.{err_from_is_err_and}
 use native.Mathlib.Omega.{arith}
-use Rattle.unchecked_advance.proofs.Ranges.{anchor_range}
 use Rattle.unchecked_advance.proofs.Decided.{skip_in, capacity_fits, entries_fit, refused_6, refused_7, refused_9_work, refused_9_output, answered_by}
 use Rattle.unchecked_advance.proofs.advance.Goals as goal
 
@@ -36,7 +35,7 @@ returns-then-out-n c =
 pub proceed-requires : goal.proceed-requires
 proceed-requires c =
     let a = c.args in
-    (c.requires, anchor_range a.child _ c.well_formed.1.0, omega (arith, capacity_fits a.s.now _ c.requires c.read_u64.ensures, c.if-work-read_u64.false), entries_fit a.writes.now a.out.now c.if-out-n.false)
+    (c.requires, omega (arith, capacity_fits a.s.now _ c.requires c.read_u64.ensures, c.if-work-read_u64.false), entries_fit a.writes.now a.out.now c.if-out-n.false)
 
 pub returns : goal.returns
 returns c =

@@ -16,7 +16,7 @@ returns-then-eq c k q =
 pub carried-requires : goal.carried-requires
 carried-requires c =
     let f = follows c.args.s.now c.args.child c.args.parent_hash _ _ c.requires.0 c.classify_link-lineage.ensures (sym c.carries.ensures ∙ c.if-carries.true) in
-    (f.has, c.requires.1, f.next, c.requires.2, c.requires.3)
+    (f.has, f.next, c.requires.1, c.requires.2)
 
 pub returns-then-carries : goal.returns-then-carries
 returns-then-carries c k q =
