@@ -9,9 +9,9 @@ use checking::{Counted, SizedBytes};
 use model::delta_snapshot::Retention;
 use order::Records;
 
-// All checks of an installed generation but the rules across layers.
+// What is counted, if all checks of an installed generation but the rules across layers are right.
 #[tactic(auto, using(crate::proofs::Links::ends_say), unfolding(checking::specs::Checks::parts_right))]
-fn parts_right(sized: SizedBytes) -> Option<Counted>
+fn counted_right(sized: SizedBytes) -> Option<Counted>
     ensures is_right { is_some result ≡ parts_in sized.entry.bytes.now }
     ensures same { IfSome result (λ c. c.bytes.now ≡ sized.entry.bytes.now) }
 {
@@ -47,10 +47,7 @@ fn rules_right(counted: Counted) -> bool
 fn installed_right(sized: SizedBytes) -> bool
     ensures { result ≡ (parts_in sized.entry.bytes.now && rules_in sized.entry.bytes.now) }
 {
-    match parts_right(sized) {
-        Some(counted) => rules_right(counted),
-        None => false,
-    }
+    counted_right(sized).is_some_and(rules_right)
 }
 
 // Whether bytes are a store: they begin with the image of the well-formed state that they read as.
