@@ -1,7 +1,7 @@
 -- The words of a value, copied from its record.
 use Rattle.std.specs.Prelude.{Option, Some}
 use Prim.Native.Nat.{ℕ, ◌+◌, ◌*◌, ◌≤◌}
-use mathlib.Core.Path.{◌≡◌, refl, sym, ap, ◌∙◌}
+use mathlib.Core.Path.{◌≡◌, sym, ap, ◌∙◌}
 use mathlib.Core.Bool.{true}
 use mathlib.Core.List.{List, [], ◌∷◌, ◌++◌, append-nil}
 use native.Mathlib.Omega.{arith}
@@ -19,7 +19,7 @@ use Rattle.image.specs.Image.{bytes_of, words_of}
 use Rattle.image.proofs.Words.{bytes_of_words}
 use Rattle.records.specs.Records.{words_at}
 use Rattle.records.proofs.RecordsAt.{has_value_at, held_value}
-use Rattle.records.proofs.Slots.{value_taken}
+use Rattle.records.proofs.Slots.{value_at}
 use Rattle.image.proofs.Written.{placed_after}
 use Rattle.layers.specs.Answers.{row_content}
 
@@ -49,7 +49,7 @@ module _ (row : ℕ) (b : List ℕ) (f : Bytes b) (room : records_offset + recor
       let at : ℕ = row * record_size + value_offset in
       let e : records_offset + at ≡ records_offset + record_size * row + value_offset = omega arith in
       let d : drop at rows ≡ drop (records_offset + record_size * row + value_offset) b = drop-drop at records_offset b ∙ ap (λ (k : ℕ). drop k b) e in
-      sym (ap (λ (x : Value). bytes_of (u256_words x)) (value_taken row rows refl refl refl refl))
+      sym (ap (λ (x : Value). bytes_of (u256_words x)) (value_at row rows))
       ∙ sym (ap bytes_of (four_words at rows))
       ∙ ap (λ (x : List ℕ). bytes_of (words_of 4 x)) d
       ∙ bytes_of_words 4 (drop (records_offset + record_size * row + value_offset) b) (bytes_drop (records_offset + record_size * row + value_offset) b f) (omega (arith, length-drop (records_offset + record_size * row + value_offset) b))

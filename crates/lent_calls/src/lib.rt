@@ -98,22 +98,12 @@ pub fn cap(n: u64) -> Option<u64>
     if n == UNLIMITED { None } else { Some(n) }
 }
 
-// Words at the beginning of a reply.
-fn write_words(reply: &mut [u8], ws: &[u64])
-    requires { 8 * length ws.now ≤ length reply.old }
-    ensures { reply.new ≡ with_words ws.now reply.old }
-{
-    for (i, w) in ws.iter().enumerate() {
-        words::write_u64(reply, 8 * i, *w);
-    }
-}
-
 // The words of a value: 1, and its four.
 fn write_value(reply: &mut [u8], v: U256)
     requires { reply_size ≤ length reply.old }
     ensures { reply.new ≡ with_words (1 ∷ u256_words v) reply.old }
 {
-    write_words(reply, &[1, v.w0, v.w1, v.w2, v.w3]);
+    image::write_words(reply, 0, [1, v.w0, v.w1, v.w2, v.w3]);
 }
 
 // The words of no value: five of 0.
@@ -121,7 +111,7 @@ pub fn write_no_value(reply: &mut [u8])
     requires { reply_size ≤ length reply.old }
     ensures { reply.new ≡ with_words (value_words None) reply.old }
 {
-    words::clear(reply, 0, 40);
+    image::write_words(reply, 0, [0, 0, 0, 0, 0]);
 }
 
 // The words of the value of record `row` of a store: 1, and the value's bytes, which stand in the record as in the reply. They go by an array of its own, so that they are compiled to whole moves: the compiler doesn't know that the reply is apart from the store.
@@ -134,25 +124,6 @@ pub fn write_row(reply: &mut [u8], s: &[u8], row: usize)
     words::place(&mut v, 0, &s[at..at + 32]);
     words::write_u64(reply, 0, 1);
     words::place(reply, 8, &v);
-}
-
-// The words of read totals.
-pub fn write_totals(reply: &mut [u8], t: ReadTotals)
-    requires { reply_size ≤ length reply.old }
-    ensures { reply.new ≡ with_words (totals_words t) reply.old }
-{
-    let ws = [
-        t.accepted,
-        t.served,
-        t.waiting,
-        t.valued,
-        t.refused,
-        t.rounds,
-        t.members,
-        t.errors,
-        t.coalesced,
-    ];
-    write_words(reply, &ws);
 }
 
 // An advance's words, by those of its outcome.
@@ -174,7 +145,7 @@ fn write_report(reply: &mut [u8], kind: u64, carried: u64, lineage: u64, skip: u
         d.compaction.left as u64,
         d.compaction.dropped as u64,
     ];
-    write_words(reply, &ws);
+    image::write_words(reply, 0, ws);
 }
 
 // What an accepted call answers, as words at the beginning of its reply.
@@ -191,7 +162,7 @@ impl ReplyWords for () {
     ghost words = { unit_words };
 
     fn write(self, reply: &mut [u8]) {
-        write_words(reply, &[]);
+        image::write_words(reply, 0, []);
     }
 }
 
@@ -201,8 +172,8 @@ impl ReplyWords for Installed {
 
     fn write(self, reply: &mut [u8]) {
         match self {
-            Installed::Same => write_words(reply, &[0]),
-            Installed::Fresh => write_words(reply, &[1]),
+            Installed::Same => image::write_words(reply, 0, [0]),
+            Installed::Fresh => image::write_words(reply, 0, [1]),
         }
     }
 }
@@ -213,7 +184,7 @@ impl ReplyWords for Option<U256> {
 
     fn write(self, reply: &mut [u8]) {
         match self {
-            None => write_words(reply, &[0, 0, 0, 0, 0]),
+            None => write_no_value(reply),
             Some(v) => write_value(reply, v),
         }
     }
@@ -242,7 +213,7 @@ impl ReplyWords for ReadOutcome {
     fn write(self, reply: &mut [u8]) {
         match self {
             ReadOutcome::Value(v) => write_value(reply, v),
-            ReadOutcome::Waiting(n) => write_words(reply, &[0, n, 0, 0, 0]),
+            ReadOutcome::Waiting(n) => image::write_words(reply, 0, [0, n, 0, 0, 0]),
         }
     }
 }
@@ -252,7 +223,7 @@ impl ReplyWords for u64 {
     ghost words = { take_words };
 
     fn write(self, reply: &mut [u8]) {
-        write_words(reply, &[self]);
+        image::write_words(reply, 0, [self]);
     }
 }
 
@@ -261,7 +232,7 @@ impl ReplyWords for Answered {
     ghost words = { answered_words };
 
     fn write(self, reply: &mut [u8]) {
-        write_words(reply, &[self.members, self.errors, self.woken]);
+        image::write_words(reply, 0, [self.members, self.errors, self.woken]);
     }
 }
 
@@ -275,13 +246,22 @@ impl ReplyWords for RunEnd {
                 next,
                 written,
                 ended,
-            } => write_words(reply, &[ended as u64, next.at as u64, written as u64, 0]),
+            } => image::write_words(reply, 0, [ended as u64, next.at as u64, written as u64, 0]),
             RunEnd::Broken {
                 fault,
                 place,
                 written,
-            } => write_words(reply, &[2, place.at as u64, written as u64, fault]),
+            } => image::write_words(reply, 0, [2, place.at as u64, written as u64, fault]),
         }
+    }
+}
+
+// Read totals, in the order of a store's.
+impl ReplyWords for ReadTotals {
+    ghost words = { totals_words };
+
+    fn write(self, reply: &mut [u8]) {
+        image::write_words(reply, 0, totals::words_of(self));
     }
 }
 
@@ -290,9 +270,10 @@ impl ReplyWords for SeedCounts {
     ghost words = { seed_words };
 
     fn write(self, reply: &mut [u8]) {
-        write_words(
+        image::write_words(
             reply,
-            &[self.writes, self.reads, self.filtered, self.capped],
+            0,
+            [self.writes, self.reads, self.filtered, self.capped],
         );
     }
 }
