@@ -1,55 +1,59 @@
--- What a look and a get come to past the guard, by the value that the search found. Assumes nothing.
+-- What a call on a slot gives, and what a get comes to past the guard, by the record that the search found.
 use Rattle.std.specs.Prelude.{None, Option, Some, is_some}
-use Prim.Native.Nat.{ℕ, ◌≤◌, ◌<◌}
-use mathlib.Core.Path.{◌≡◌, refl, sym, ◌∙◌}
-use mathlib.Core.Bool.{true}
-use mathlib.Core.List.{List, ◌∷◌}
-use native.Mathlib.Omega.{arith}
+use Prim.Native.Nat.{ℕ}
+use mathlib.Core.Path.{◌≡◌, refl, ap₂}
+use mathlib.Core.Bool.{Bool, true, false}
+use mathlib.Core.List.{List}
+use lib.Dec.{leb}
 use Rattle.model.specs.declared.delta_snapshot.Slot.{Slot}
 use Rattle.model.specs.declared.storage_memo.ReadAnchor.{ReadAnchor}
 use Rattle.model.specs.Slots.{Value}
 use Rattle.model.specs.Numbers.{Bytes}
-use Rattle.model.specs.Contents.{touch}
-use Rattle.model.specs.Layers.{find, record_count}
-use Rattle.model.specs.Store.{Generation, on_store, at_anchor, on_slot, look, get, chain, resolved, touched_top, value_report, no_value}
-use Rattle.model.specs.Refusals.{refuse, ok}
+use Rattle.model.specs.Contents.{own_value}
+use Rattle.model.specs.Entries.{slot_of}
+use Rattle.model.specs.Layers.{record_count}
+use Rattle.model.specs.Store.{SlotCall, on_store, at_anchor, on_slot, get, chain, resolved, touched_top, value_report}
+use Rattle.model.specs.Refusals.{Answer, refuse, ok}
 use Rattle.model.proofs.SlotLaws.{not_both}
-use Rattle.image.specs.Image.{BytesResult, bytes_step, overlay}
+use Rattle.image.specs.Image.{bytes_step, overlay}
 use Rattle.image.specs.Lent.{store_of, generation_of}
 use Rattle.records.specs.Records.{Found}
 use Rattle.records.specs.Records.{place_in, count_after}
+use Rattle.layers.specs.Answers.{row_content, ValueIn}
+use Rattle.header.specs.Header.{lent_anchor}
 use Rattle.header.proofs.Guards.{Here}
 use Rattle.top.specs.Top.{topped}
-use Rattle.top.proofs.Tops.{count_set}
 use Rattle.replies.specs.Replies.{alone, Stepped}
-use Rattle.unchecked_calls.proofs.Said.{said_look, said_none, said_get, said_get_full}
+use Rattle.unchecked_calls.proofs.Here.{get_full, get_set}
+use Rattle.lent_calls.specs.Arguments.{slot_enough}
+use Rattle.lent_calls.specs.ReplyWords.{Gives, answer_given}
+use Rattle.lent_calls.specs.Exported.{Exported}
+use Rattle.lent_calls.specs.Steps.{lent_slot}
+use Rattle.lent_calls.proofs.Joining.{fit, exported, stepped_as}
+
+-- A call on a lent slot, by its anchor and slot as read.
+module _ (k : Slot → SlotCall) (b : List ℕ) (number : ℕ) (hash slot reply : List ℕ) {r : Bool} {x : ReadAnchor} {y : Slot} (e : r ≡ slot_enough hash slot reply) (t : r ≡ true) (p : x ≡ lent_anchor number hash) (q : y ≡ slot_of slot) where
+  pub slot_stepped : {a : Answer} {after : List ℕ} → Stepped a after (bytes_step b (alone (on_store (at_anchor x (on_slot (k y)))))) → Stepped a after (bytes_step b (alone (on_store (at_anchor (lent_anchor number hash) (on_slot (k (slot_of slot)))))))
+  slot_stepped = stepped_as (ap₂ (λ (u : ReadAnchor) (v : Slot). bytes_step b (alone (on_store (at_anchor u (on_slot (k v)))))) p q)
+
+  pub slot_exported : {code : ℕ} {after replied : List ℕ} {a : Answer} → Gives code replied (answer_given a) reply → Stepped a after (bytes_step b (alone (on_store (at_anchor x (on_slot (k y)))))) → Exported code after replied (lent_slot k b number hash slot reply) reply
+  slot_exported g s = exported b reply _ {fits = slot_enough hash slot reply} (fit e t) g (slot_stepped s)
 
 -- An answer that is there is a value.
 by_value : (P : Option Value → Type 0) (o : Option Value) → is_some o ≡ true → ((v : Value) → o ≡ Some v → P (Some v)) → P o
 by_value P None e k = not_both e refl
 by_value P (Some v) e k = k v refl
 
-module _ (b : List ℕ) (f : Bytes b) (a : ReadAnchor) (h : Here b a) (t : Slot) (o : Option Value) (e : o ≡ resolved (store_of b).config.retention (generation_of b) t) where
-  abbrev got_of : BytesResult
-  got_of = bytes_step b (alone (on_store (at_anchor a (on_slot (get t)))))
+-- A get that found a record with a value: with room for the top's record, and without.
+module _ {b : List ℕ} {a : ReadAnchor} (f : Bytes b) (h : Here b a) (s : Slot) {place : Found} {r : Bool} (p : place ≡ place_in s (generation_of b).top) (q : r ≡ leb (count_after place (record_count (chain (generation_of b)))) (store_of b).config.capacity)
+    {row : ℕ} (v : ValueIn row (resolved (store_of b).config.retention (generation_of b) s) b) where
+  pub row_full : r ≡ false → Stepped (refuse 23) b (bytes_step b (alone (on_store (at_anchor a (on_slot (get s))))))
+  row_full t =
+      by_value (λ x. Stepped (refuse 23) b (bytes_step b (alone (on_store (at_anchor a (on_slot (get s))))))) (own_value (row_content row b)) v.has
+      (λ w e. get_full f h s p q (own_value (row_content row b)) w v.value_is e t)
 
-  pub looked : Stepped (ok (value_report o)) b (bytes_step b (alone (on_store (at_anchor a (on_slot (look t))))))
-  looked = said_look b (store_of b) (generation_of b) f h.has.is_store h.has.installs a t h.same o e
-
-  pub got_none : None ≡ o → Stepped (ok no_value) b got_of
-  got_none z = said_none b (store_of b) (generation_of b) f h.has.is_store h.has.installs a t h.same (sym (z ∙ e))
-
-  -- A value, by the slot's place in the top: with room for its record, and without.
-  module _ (s : is_some o ≡ true) (place : Found) (p : place ≡ place_in t (generation_of b).top) where
-    counted : record_count (touched_top (generation_of b) t ∷ (generation_of b).base) ≡ count_after place (record_count (chain (generation_of b)))
-    counted = let g : Generation = generation_of b in count_set g t (touch g.anchor.number (find t g.top)) place p
-
-    pub got : count_after place (record_count (chain (generation_of b))) ≤ (store_of b).config.capacity → Stepped (ok (value_report o)) (overlay (topped (store_of b).config (generation_of b) (touched_top (generation_of b) t)) b) got_of
-    got r =
-        by_value (λ x. Stepped (ok (value_report x)) (overlay (topped (store_of b).config (generation_of b) (touched_top (generation_of b) t)) b) got_of) o s
-        (λ v q. said_get b (store_of b) (generation_of b) f h.has.is_store h.has.installs a t h.same v (sym e ∙ q) (omega (arith, counted, r)))
-
-    pub got_full : (store_of b).config.capacity < count_after place (record_count (chain (generation_of b))) → Stepped (refuse 23) b got_of
-    got_full r =
-        by_value (λ x. Stepped (refuse 23) b got_of) o s
-        (λ v q. said_get_full b (store_of b) (generation_of b) f h.has.is_store h.has.installs a t h.same v (sym e ∙ q) (omega (arith, counted, r)))
+  pub row_set : r ≡ true → (u : List ℕ) → u ≡ overlay (topped (store_of b).config (generation_of b) (touched_top (generation_of b) s)) b
+      → Stepped (ok (value_report (own_value (row_content row b)))) u (bytes_step b (alone (on_store (at_anchor a (on_slot (get s))))))
+  row_set t u g =
+      by_value (λ x. Stepped (ok (value_report x)) u (bytes_step b (alone (on_store (at_anchor a (on_slot (get s))))))) (own_value (row_content row b)) v.has
+      (λ w e. get_set f h s p q (own_value (row_content row b)) w v.value_is e t u g)

@@ -1,22 +1,23 @@
 // The static library for C and Rust: every public call of the store on numbers and lent bytes. docs/REFERENCE.md describes each.
 // A call gives 0, or its refusal's number; the words of an accepted call's reply stand in `reply`. Arguments that are too short are refused by 9, before every other refusal.
-#![tactic(auto)]
+#![tactic(auto, using(image::proofs::Lent::decoded_some, header::proofs::Guards::past_guard))]
 
-ghost use Rattle.std.specs.Prelude.{◌≡◌, true, ◌≤◌, ◌/◌, length, is_some};
+ghost use Rattle.std.specs.Prelude.{◌≡◌, true, ◌/◌, length, is_some};
 ghost use Rattle.model.specs.Store as calls;
-ghost use Rattle.image.specs.Image.{decode};
-ghost use Rattle.image.specs.Lent.{IsStore};
+ghost use Rattle.image.specs.Image.{decode, totals_words};
 ghost use Rattle.bal_plan.specs.Plan.{plan_of};
 ghost use Rattle.final_writes.specs.Lent.{lent_lists, lent_final_writes};
-ghost use Rattle.lent_calls.specs.Arguments.{reply_size, reply_enough, lent_cap, lent_size};
-ghost use Rattle.lent_calls.specs.ReplyWords.{Gives, totals_given};
+ghost use Rattle.lent_calls.specs.Arguments.{reply_enough, lent_cap, lent_size};
+ghost use Rattle.lent_calls.specs.ReplyWords.{Gives, reply_given, totals_given};
 ghost use Rattle.lent_calls.specs.Exported.{lent_final, Keeps, Exported, ExportedOutput, ExportedRun, ExportedFinal};
 ghost use Rattle.lent_calls.specs.Steps.{lent_open, lent_install, lent_slot, lent_put, lent_advance, lent_take, lent_answer, lent_failed, lent_totals};
 
 mod store_calls;
 
 use crate::store_calls::{Checked, StoreCalls, Unchecked};
+use layers::{LentGeneration, LentStore};
 use model::delta_snapshot::Retention;
+use model::read_hub::ReadTotals;
 use model::refusal::Refusal;
 use reader::Cursor;
 
@@ -340,15 +341,13 @@ pub extern "C" fn poxilme_answer_failed(
 }
 
 // The read totals of a store's installed generation, or 21.
-fn known_totals(s: &[u8], reply: &mut [u8]) -> u64
-    requires { IsStore s.now × (reply_size ≤ length reply.old) }
-    ensures { Gives result reply.new (totals_given (decode s.now)) reply.old }
+fn known_totals(store: LentStore) -> Result<ReadTotals, Refusal>
+    ensures { reply_given totals_words result ≡ totals_given (decode store.entry.bytes.now) }
 {
-    if !layers::is_installed(s) {
-        return Refusal::NothingInstalled.number();
+    if !store.is_installed() {
+        return Err(Refusal::NothingInstalled);
     }
-    lent_calls::write_totals(reply, totals::read_totals(s));
-    0
+    Ok(totals::read_totals(store.bytes))
 }
 
 // The read totals of the installed generation. Refused by 20 and 21.
@@ -362,7 +361,7 @@ pub extern "C" fn poxilme_read_totals(s: &[u8], reply: &mut [u8]) -> u64
     if !check_store::is_store(s) {
         return Refusal::NotAStore.number();
     }
-    known_totals(s, reply)
+    lent_calls::write_reply(reply, known_totals(LentStore { bytes: s }))
 }
 
 // `poxilme_install` on bytes that are known to be a store: what `poxilme_open` and these functions leave.
@@ -395,16 +394,17 @@ pub extern "C" fn poxilme_look_unchecked(
         return Refusal::LentTooShort.number();
     }
     let t = lent_calls::slot(slot);
-    if let Err(refusal) = header::guard_lent(s, number, hash) {
+    let anchor = lent_calls::anchor(number, hash);
+    if let Err(refusal) = header::guard(LentStore { bytes: s }, anchor) {
         return refusal.number();
     }
-    let place = records::place_of(layers::top_number(s, t));
-    let found = layers::served_row(s, place, t);
-    if found == 0 {
+    let generation = LentGeneration { bytes: s };
+    let place = generation.top_place(t);
+    let Some(row) = generation.served_row(place, t) else {
         lent_calls::write_no_value(reply);
         return 0;
-    }
-    lent_calls::write_row(reply, s, found - 1);
+    };
+    lent_calls::write_row(reply, s, row);
     0
 }
 
@@ -424,19 +424,20 @@ pub extern "C" fn poxilme_get_unchecked(
         return Refusal::LentTooShort.number();
     }
     let t = lent_calls::slot(slot);
-    if let Err(refusal) = header::guard_lent(s, number, hash) {
+    let anchor = lent_calls::anchor(number, hash);
+    if let Err(refusal) = header::guard(LentStore { bytes: s }, anchor) {
         return refusal.number();
     }
-    let place = records::place_of(layers::top_number(s, t));
-    let found = layers::served_row(s, place, t);
-    if found == 0 {
+    let generation = LentGeneration { bytes: s };
+    let place = generation.top_place(t);
+    let Some(row) = generation.served_row(place, t) else {
         lent_calls::write_no_value(reply);
         return 0;
-    }
-    if !top::has_room(s, place) {
+    };
+    if !top::has_room(generation, place) {
         return Refusal::OverCapacity.number();
     }
-    lent_calls::write_row(reply, s, found - 1);
+    lent_calls::write_row(reply, s, row);
     top::touch_top(s, place, t);
     0
 }
@@ -557,7 +558,7 @@ pub extern "C" fn poxilme_read_totals_unchecked(s: &[u8], reply: &mut [u8]) -> u
     if !lent_calls::reply_enough(reply) {
         return Refusal::LentTooShort.number();
     }
-    known_totals(s, reply)
+    lent_calls::write_reply(reply, known_totals(LentStore { bytes: s }))
 }
 
 // `call_run::run`, from the place `from` on.

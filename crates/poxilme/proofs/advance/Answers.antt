@@ -3,9 +3,8 @@ use Rattle.header.proofs.Segments.{known_bytes}
 use Rattle.image.proofs.EntriesFit.{writes_of_fit}
 use Rattle.image.specs.Image.{bytes_step}
 use Rattle.lent_calls.proofs.Giving.{given_by, advance_given}
-use Rattle.lent_calls.proofs.Joining.{unfit, fit, short_output, exported_output, advanced_as}
+use Rattle.lent_calls.proofs.Joining.{fit, exported_output, advanced_as}
 use Rattle.lent_calls.proofs.Kept.{keeps}
-use Rattle.lent_calls.proofs.Lengths.{anchored_hash, advance_long, advance_anchored, anchored_reply}
 use Rattle.lent_calls.proofs.Ranges.{lent_anchor_fits}
 use Rattle.header.specs.Header.{lent_anchor}
 use Rattle.lent_calls.specs.Arguments.{advance_enough}
@@ -17,26 +16,6 @@ use Rattle.replies.specs.Replies.{advance_call}
 use mathlib.Core.Path.{ap₂}
 use native.Mathlib.Omega.{arith}
 use Rattle.poxilme.proofs.advance.Goals as goal
-
-pub returns-then-not-advance_enough : goal.returns-then-not-advance_enough
-returns-then-not-advance_enough g c =
-    let a = c.args in
-    rw c.number.ensures (short_output a.s.now a.reply.now _ {fits = advance_enough a.hash.now a.parent_hash.now a.reply.now} (unfit {fits = advance_enough a.hash.now a.parent_hash.now a.reply.now} c.advance_enough.ensures c.if-not-advance_enough.true) a.out.now, λ e. e)
-
-pub anchor-anchor-requires : goal.anchor-anchor-requires
-anchor-anchor-requires g c =
-    let a = c.args in
-    anchored_hash a.hash.now a.reply.now (advance_anchored a.hash.now a.reply.now a.parent_hash.now (fit {fits = advance_enough a.hash.now a.parent_hash.now a.reply.now} c.advance_enough.ensures c.if-not-advance_enough.false))
-
-pub value-parent-requires : goal.value-parent-requires
-value-parent-requires g c =
-    let a = c.args in
-    advance_long a.hash.now a.reply.now a.parent_hash.now (fit {fits = advance_enough a.hash.now a.parent_hash.now a.reply.now} c.advance_enough.ensures c.if-not-advance_enough.false)
-
-pub write_reply-requires : goal.write_reply-requires
-write_reply-requires g c =
-    let a = c.args in
-    anchored_reply a.hash.now a.reply.now (advance_anchored a.hash.now a.reply.now a.parent_hash.now (fit {fits = advance_enough a.hash.now a.parent_hash.now a.reply.now} c.advance_enough.ensures c.if-not-advance_enough.false))
 
 pub returns : goal.returns
 returns g c =

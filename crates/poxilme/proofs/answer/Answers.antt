@@ -1,30 +1,14 @@
 -- `poxilme::answer` meets its contract: 9, or what the call does. Assumes nothing.
 use Rattle.header.proofs.Segments.{known_bytes}
 use Rattle.lent_calls.proofs.Giving.{given_by, answered_given}
-use Rattle.lent_calls.proofs.Joining.{unfit, fit, short_exported, exported, stepped_as}
+use Rattle.lent_calls.proofs.Joining.{fit, exported, stepped_as}
 use Rattle.lent_calls.proofs.Kept.{answer_keeps}
-use Rattle.lent_calls.proofs.Lengths.{anchored_hash, anchored_reply}
 use Rattle.header.specs.Header.{lent_anchor}
 use Rattle.lent_calls.specs.Arguments.{anchored_enough}
 use Rattle.model.specs.declared.storage_memo.ReadAnchor.{ReadAnchor}
 use Rattle.replies.specs.Replies.{answer_step}
 use mathlib.Core.Path.{ap}
 use Rattle.poxilme.proofs.answer.Goals as goal
-
-pub returns-then-not-anchored_enough : goal.returns-then-not-anchored_enough
-returns-then-not-anchored_enough g c =
-    let a = c.args in
-    rw c.number.ensures (short_exported a.s.now a.reply.now _ (unfit c.anchored_enough.ensures c.if-not-anchored_enough.true), λ e. e)
-
-pub anchor-anchor-requires : goal.anchor-anchor-requires
-anchor-anchor-requires g c =
-    let a = c.args in
-    anchored_hash a.hash.now a.reply.now (fit c.anchored_enough.ensures c.if-not-anchored_enough.false)
-
-pub write_reply-requires : goal.write_reply-requires
-write_reply-requires g c =
-    let a = c.args in
-    anchored_reply a.hash.now a.reply.now (fit c.anchored_enough.ensures c.if-not-anchored_enough.false)
 
 pub returns : goal.returns
 returns g c =

@@ -2,9 +2,8 @@
 use Rattle.header.proofs.Segments.{known_bytes}
 use Rattle.image.specs.Image.{bytes_step}
 use Rattle.lent_calls.proofs.Giving.{given_by, install_given}
-use Rattle.lent_calls.proofs.Joining.{unfit, fit, short_exported, exported, stepped_as}
+use Rattle.lent_calls.proofs.Joining.{fit, exported, stepped_as}
 use Rattle.lent_calls.proofs.Kept.{keeps}
-use Rattle.lent_calls.proofs.Lengths.{anchored_hash, anchored_reply}
 use Rattle.lent_calls.proofs.Ranges.{lent_anchor_fits}
 use Rattle.header.specs.Header.{lent_anchor}
 use Rattle.lent_calls.specs.Arguments.{anchored_enough}
@@ -14,21 +13,6 @@ use Rattle.replies.specs.Replies.{alone}
 use mathlib.Core.Path.{ap}
 use native.Mathlib.Omega.{arith}
 use Rattle.poxilme.proofs.install.Goals as goal
-
-pub returns-then-not-anchored_enough : goal.returns-then-not-anchored_enough
-returns-then-not-anchored_enough g c =
-    let a = c.args in
-    rw c.number.ensures (short_exported a.s.now a.reply.now _ (unfit c.anchored_enough.ensures c.if-not-anchored_enough.true), λ e. e)
-
-pub anchor-anchor-requires : goal.anchor-anchor-requires
-anchor-anchor-requires g c =
-    let a = c.args in
-    anchored_hash a.hash.now a.reply.now (fit c.anchored_enough.ensures c.if-not-anchored_enough.false)
-
-pub write_reply-requires : goal.write_reply-requires
-write_reply-requires g c =
-    let a = c.args in
-    anchored_reply a.hash.now a.reply.now (fit c.anchored_enough.ensures c.if-not-anchored_enough.false)
 
 pub returns : goal.returns
 returns g c =

@@ -3,22 +3,10 @@ use Rattle.bal_plan.specs.Plan.{plan_of}
 use Rattle.std.specs.Prelude.{ℕ, Option}
 use Rattle.final_writes.specs.Lent.{lent_lists, lent_final_writes}
 use Rattle.lent_calls.proofs.Giving.{given_by, seed_given}
-use Rattle.lent_calls.proofs.Joining.{unfit, fit, short_final, exported_final, answers_as}
-use Rattle.lent_calls.specs.Arguments.{reply_size, reply_enough}
-use borrow.Author.Tests.{leb-true}
-use lib.ListN.{length}
+use Rattle.lent_calls.proofs.Joining.{fit, exported_final, answers_as}
+use Rattle.lent_calls.specs.Arguments.{reply_enough}
 use mathlib.Core.Path.{ap₂}
 use Rattle.poxilme.proofs.poxilme_final_writes.Goals as goal
-
-pub returns-then-not-reply_enough : goal.returns-then-not-reply_enough
-returns-then-not-reply_enough c =
-    let a = c.args in
-    rw c.number.ensures (short_final a.reply.now a.writes_out.now a.reads_out.now _ {fits = reply_enough a.reply.now} (unfit c.reply_enough.ensures c.if-not-reply_enough.true))
-
-pub write_reply-requires : goal.write_reply-requires
-write_reply-requires c =
-    let a = c.args in
-    leb-true reply_size (length a.reply.now) (fit c.reply_enough.ensures c.if-not-reply_enough.false)
 
 pub returns : goal.returns
 returns c =

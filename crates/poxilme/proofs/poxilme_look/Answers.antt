@@ -1,8 +1,7 @@
 -- `poxilme::poxilme_look` meets its contract: 9, or what `store::look` does. Assumes nothing.
 use Rattle.image.specs.Image.{bytes_step}
 use Rattle.lent_calls.proofs.Giving.{given_by, look_given}
-use Rattle.lent_calls.proofs.Joining.{unfit, fit, short_exported, exported, stepped_as}
-use Rattle.lent_calls.proofs.Lengths.{anchored_hash, slot_long, slot_anchored, anchored_reply}
+use Rattle.lent_calls.proofs.Joining.{fit, exported, stepped_as}
 use Rattle.lent_calls.specs.Arguments.{slot_enough}
 use Rattle.model.specs.Store.{on_store, at_anchor, on_slot, look}
 use Rattle.model.specs.declared.delta_snapshot.Slot.{Slot}
@@ -10,26 +9,6 @@ use Rattle.model.specs.declared.storage_memo.ReadAnchor.{ReadAnchor}
 use Rattle.replies.specs.Replies.{alone}
 use mathlib.Core.Path.{ap₂}
 use Rattle.poxilme.proofs.poxilme_look.Goals as goal
-
-pub returns-then-not-slot_enough : goal.returns-then-not-slot_enough
-returns-then-not-slot_enough c =
-    let a = c.args in
-    rw c.number.ensures (short_exported a.s.now a.reply.now _ (unfit c.slot_enough.ensures c.if-not-slot_enough.true))
-
-pub anchor-anchor-requires : goal.anchor-anchor-requires
-anchor-anchor-requires c =
-    let a = c.args in
-    anchored_hash a.hash.now a.reply.now (slot_anchored a.hash.now a.reply.now a.slot.now (fit c.slot_enough.ensures c.if-not-slot_enough.false))
-
-pub slot-requires : goal.slot-requires
-slot-requires c =
-    let a = c.args in
-    slot_long a.hash.now a.reply.now a.slot.now (fit c.slot_enough.ensures c.if-not-slot_enough.false)
-
-pub write_reply-requires : goal.write_reply-requires
-write_reply-requires c =
-    let a = c.args in
-    anchored_reply a.hash.now a.reply.now (slot_anchored a.hash.now a.reply.now a.slot.now (fit c.slot_enough.ensures c.if-not-slot_enough.false))
 
 pub returns : goal.returns
 returns c =

@@ -3,29 +3,17 @@ use Rattle.image.specs.Image.{bytes_step}
 use Rattle.lent_calls.proofs.Kept.{keeps}
 use Rattle.lent_calls.proofs.Numbered.{opened_store}
 use Rattle.lent_calls.proofs.Ranges.{lent_retention_fits}
-use Rattle.lent_calls.proofs.Giving.{refused_gives, given_by, open_given}
-use Rattle.lent_calls.proofs.Joining.{unfit, fit, short_exported, exported, stepped_as, form_unknown, form_known}
+use Rattle.lent_calls.proofs.Giving.{given_by, open_given}
+use Rattle.lent_calls.proofs.Joining.{fit, exported, stepped_as, form_known}
 use Rattle.lent_calls.specs.Arguments.{lent_retention}
 use Rattle.lent_calls.specs.ReplyWords.{code_of, answer_given}
-use Rattle.model.specs.Refusals.{Answer, refuse}
+use Rattle.model.specs.Refusals.{Answer}
 use Rattle.model.specs.Store.{open_store}
 use Rattle.model.specs.declared.delta_snapshot.Retention.{Retention}
 use Rattle.replies.specs.Replies.{alone}
-use mathlib.Core.Path.{refl, sym, ap, ◌∙◌}
+use mathlib.Core.Path.{sym, ap, ◌∙◌}
 use native.Mathlib.Omega.{arith}
 use Rattle.poxilme.proofs.poxilme_open.Goals as goal
-
-pub returns-then-not-reply_enough : goal.returns-then-not-reply_enough
-returns-then-not-reply_enough c =
-    let a = c.args in
-    rw c.number.ensures (short_exported a.s.now a.reply.now _ (unfit c.reply_enough.ensures c.if-not-reply_enough.true), λ z. absurd (omega (arith, z)), λ e. e)
-
-pub returns-then-bounded-gt1 : goal.returns-then-bounded-gt1
-returns-then-bounded-gt1 c =
-    let a = c.args in
-    let o = bytes_step a.s.now (alone (open_store a.capacity a.max_depth (lent_retention a.bounded a.idle))) in
-    let st = stepped_as (sym (form_unknown a.bounded a.s.now o (omega arith))) (record { answer_is = refl; bytes_is = refl }) in
-    rw c.number-then-bounded-gt1.ensures (exported a.s.now a.reply.now _ (fit c.reply_enough.ensures c.if-not-reply_enough.false) (refused_gives 3 {x = answer_given (refuse 3)} refl) st, λ z. absurd (omega (arith, z)), λ e. e)
 
 pub returns : goal.returns
 returns c =

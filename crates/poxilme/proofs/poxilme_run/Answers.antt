@@ -2,21 +2,10 @@
 use Prim.Native.Nat.{◌/◌}
 use Rattle.header.proofs.Segments.{known_bytes}
 use Rattle.lent_calls.proofs.Kept.{run_keeps}
-use Rattle.lent_calls.proofs.Joining.{unfit, fit, short_run, exported_run}
-use Rattle.lent_calls.specs.Arguments.{reply_size, reply_enough}
-use borrow.Author.Tests.{leb-true}
+use Rattle.lent_calls.proofs.Joining.{fit, exported_run}
+use Rattle.lent_calls.specs.Arguments.{reply_enough}
 use lib.ListN.{length}
 use Rattle.poxilme.proofs.poxilme_run.Goals as goal
-
-pub returns-then-not-reply_enough : goal.returns-then-not-reply_enough
-returns-then-not-reply_enough c =
-    let a = c.args in
-    rw c.number.ensures (short_run (length a.work.now) (length a.entries.now / 52) a.list.now a.from a.members.now a.s.now a.out.now a.reply.now {fits = reply_enough a.reply.now} (unfit c.reply_enough.ensures c.if-not-reply_enough.true), λ e. e)
-
-pub write_reply-requires : goal.write_reply-requires
-write_reply-requires c =
-    let a = c.args in
-    leb-true reply_size (length a.reply.now) (fit c.reply_enough.ensures c.if-not-reply_enough.false)
 
 pub returns : goal.returns
 returns c =

@@ -3,9 +3,8 @@ use Rattle.header.proofs.Segments.{known_bytes}
 use Rattle.image.proofs.EntriesFit.{slot_of_fits, u256_at_fits}
 use Rattle.image.specs.Image.{bytes_step}
 use Rattle.lent_calls.proofs.Giving.{given_by, put_given}
-use Rattle.lent_calls.proofs.Joining.{unfit, fit, short_exported, exported, stepped_as}
+use Rattle.lent_calls.proofs.Joining.{fit, exported, stepped_as}
 use Rattle.lent_calls.proofs.Kept.{keeps}
-use Rattle.lent_calls.proofs.Lengths.{anchored_hash, slot_long, slot_anchored, put_long, put_slot}
 use Rattle.header.specs.Header.{lent_anchor}
 use Rattle.lent_calls.specs.Arguments.{put_enough}
 use Rattle.model.proofs.SlotLaws.{and_intro}
@@ -17,26 +16,6 @@ use Rattle.model.specs.declared.storage_memo.U256.{U256}
 use Rattle.replies.specs.Replies.{alone}
 use mathlib.Core.Path.{ap, ap₂, ◌∙◌}
 use Rattle.poxilme.proofs.put.Goals as goal
-
-pub returns-then-not-put_enough : goal.returns-then-not-put_enough
-returns-then-not-put_enough g c =
-    let a = c.args in
-    rw c.number.ensures (short_exported a.s.now a.reply.now _ {fits = put_enough a.hash.now a.slot.now a.value.now a.reply.now} (unfit {fits = put_enough a.hash.now a.slot.now a.value.now a.reply.now} c.put_enough.ensures c.if-not-put_enough.true), λ e. e)
-
-pub anchor-anchor-requires : goal.anchor-anchor-requires
-anchor-anchor-requires g c =
-    let a = c.args in
-    anchored_hash a.hash.now a.reply.now (slot_anchored a.hash.now a.reply.now a.slot.now (put_slot a.hash.now a.reply.now a.slot.now a.value.now (fit {fits = put_enough a.hash.now a.slot.now a.value.now a.reply.now} c.put_enough.ensures c.if-not-put_enough.false)))
-
-pub slot-requires : goal.slot-requires
-slot-requires g c =
-    let a = c.args in
-    slot_long a.hash.now a.reply.now a.slot.now (put_slot a.hash.now a.reply.now a.slot.now a.value.now (fit {fits = put_enough a.hash.now a.slot.now a.value.now a.reply.now} c.put_enough.ensures c.if-not-put_enough.false))
-
-pub value-requires : goal.value-requires
-value-requires g c =
-    let a = c.args in
-    put_long a.hash.now a.reply.now a.slot.now a.value.now (fit {fits = put_enough a.hash.now a.slot.now a.value.now a.reply.now} c.put_enough.ensures c.if-not-put_enough.false)
 
 pub returns : goal.returns
 returns g c =

@@ -3,9 +3,8 @@ use Rattle.header.proofs.Segments.{known_bytes}
 use Rattle.image.proofs.EntriesFit.{slot_of_fits}
 use Rattle.image.specs.Image.{bytes_step}
 use Rattle.lent_calls.proofs.Giving.{given_by, read_given}
-use Rattle.lent_calls.proofs.Joining.{unfit, fit, short_exported, exported, stepped_as}
+use Rattle.lent_calls.proofs.Joining.{fit, exported, stepped_as}
 use Rattle.lent_calls.proofs.Kept.{keeps}
-use Rattle.lent_calls.proofs.Lengths.{anchored_hash, slot_long, slot_anchored, anchored_reply}
 use Rattle.header.specs.Header.{lent_anchor}
 use Rattle.lent_calls.specs.Arguments.{slot_enough}
 use Rattle.model.specs.Entries.{slot_of}
@@ -15,26 +14,6 @@ use Rattle.model.specs.declared.storage_memo.ReadAnchor.{ReadAnchor}
 use Rattle.replies.specs.Replies.{alone}
 use mathlib.Core.Path.{ap₂}
 use Rattle.poxilme.proofs.read.Goals as goal
-
-pub returns-then-not-slot_enough : goal.returns-then-not-slot_enough
-returns-then-not-slot_enough g c =
-    let a = c.args in
-    rw c.number.ensures (short_exported a.s.now a.reply.now _ (unfit c.slot_enough.ensures c.if-not-slot_enough.true), λ e. e)
-
-pub anchor-anchor-requires : goal.anchor-anchor-requires
-anchor-anchor-requires g c =
-    let a = c.args in
-    anchored_hash a.hash.now a.reply.now (slot_anchored a.hash.now a.reply.now a.slot.now (fit c.slot_enough.ensures c.if-not-slot_enough.false))
-
-pub slot-requires : goal.slot-requires
-slot-requires g c =
-    let a = c.args in
-    slot_long a.hash.now a.reply.now a.slot.now (fit c.slot_enough.ensures c.if-not-slot_enough.false)
-
-pub write_reply-requires : goal.write_reply-requires
-write_reply-requires g c =
-    let a = c.args in
-    anchored_reply a.hash.now a.reply.now (slot_anchored a.hash.now a.reply.now a.slot.now (fit c.slot_enough.ensures c.if-not-slot_enough.false))
 
 pub returns : goal.returns
 returns g c =

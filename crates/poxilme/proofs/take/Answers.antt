@@ -1,9 +1,8 @@
 -- `poxilme::take` meets its contract: 9, or what the call does. Assumes nothing.
 use Rattle.image.specs.Image.{bytes_step}
 use Rattle.lent_calls.proofs.Giving.{given_by, take_given}
-use Rattle.lent_calls.proofs.Joining.{unfit, fit, short_output, exported_output, took_as}
+use Rattle.lent_calls.proofs.Joining.{fit, exported_output, took_as}
 use Rattle.lent_calls.proofs.Kept.{keeps}
-use Rattle.lent_calls.proofs.Lengths.{anchored_hash, anchored_reply}
 use Rattle.header.specs.Header.{lent_anchor}
 use Rattle.lent_calls.specs.Arguments.{anchored_enough}
 use Rattle.model.specs.Store.{on_store, at_anchor, take}
@@ -11,21 +10,6 @@ use Rattle.model.specs.declared.storage_memo.ReadAnchor.{ReadAnchor}
 use Rattle.replies.specs.Replies.{with_output}
 use mathlib.Core.Path.{ap, refl}
 use Rattle.poxilme.proofs.take.Goals as goal
-
-pub returns-then-not-anchored_enough : goal.returns-then-not-anchored_enough
-returns-then-not-anchored_enough g c =
-    let a = c.args in
-    rw c.number.ensures (short_output a.s.now a.reply.now _ (unfit c.anchored_enough.ensures c.if-not-anchored_enough.true) a.out.now, λ e. e)
-
-pub anchor-anchor-requires : goal.anchor-anchor-requires
-anchor-anchor-requires g c =
-    let a = c.args in
-    anchored_hash a.hash.now a.reply.now (fit c.anchored_enough.ensures c.if-not-anchored_enough.false)
-
-pub write_reply-requires : goal.write_reply-requires
-write_reply-requires g c =
-    let a = c.args in
-    anchored_reply a.hash.now a.reply.now (fit c.anchored_enough.ensures c.if-not-anchored_enough.false)
 
 pub returns : goal.returns
 returns g c =
