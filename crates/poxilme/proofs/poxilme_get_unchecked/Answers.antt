@@ -24,24 +24,24 @@ use Rattle.poxilme.proofs.poxilme_get_unchecked.Goals as goal
 
 pub returns-in-Err : goal.returns-in-Err
 returns-in-Err c = (
-      slot_exported get c.args.s.now c.args.number c.args.hash.now c.args.slot.now c.args.reply.now c.slot_enough.ensures c.if-not-slot_enough.false c.anchor-anchor.ensures c.slot-t.ensures (refused_gives _ (ap refused_by (sym c.number-in-Err.ensures)))
-          (by_guard _ _ _ (plain_get c.slot-t.result) (decoded_some _ c.requires) (sym c.guard.ensures ∙ c.in-Err.is)),
-      c.requires,
-    )
+  slot_exported get c.args.s.now c.args.number c.args.hash.now c.args.slot.now c.args.reply.now c.slot_enough.ensures c.if-not-slot_enough.false c.anchor-anchor.ensures c.slot-t.ensures (refused_gives _ (ap refused_by (sym c.number-in-Err.ensures)))
+      (by_guard _ _ _ (plain_get c.slot-t.result) (decoded_some _ c.requires) (sym c.guard.ensures ∙ c.in-Err.is)),
+  c.requires,
+)
 
 pub returns-in_default-served_row : goal.returns-in_default-served_row
 returns-in_default-served_row c = (
-      slot_exported get c.args.s.now c.args.number c.args.hash.now c.args.slot.now c.args.reply.now c.slot_enough.ensures c.if-not-slot_enough.false c.anchor-anchor.ensures c.slot-t.ensures (valued_gives None c.write_no_value.ensures)
-          (get_none (known_bytes _ (search rules)) (past_guard _ _ (decoded_some _ c.requires) (sym c.guard.ensures ∙ c.in_default.is)) _ None (no_row _ _ _ c.served_row.ensures c.in_default-served_row.is) refl),
-      c.requires,
-    )
+  slot_exported get c.args.s.now c.args.number c.args.hash.now c.args.slot.now c.args.reply.now c.slot_enough.ensures c.if-not-slot_enough.false c.anchor-anchor.ensures c.slot-t.ensures (valued_gives None c.write_no_value.ensures)
+      (get_none (known_bytes _ (search rules)) (past_guard _ _ (decoded_some _ c.requires) (sym c.guard.ensures ∙ c.in_default.is)) _ None (no_row _ _ _ c.served_row.ensures c.in_default-served_row.is) refl),
+  c.requires,
+)
 
 pub returns-then-not-has_room : goal.returns-then-not-has_room
 returns-then-not-has_room c = (
-      slot_exported get c.args.s.now c.args.number c.args.hash.now c.args.slot.now c.args.reply.now c.slot_enough.ensures c.if-not-slot_enough.false c.anchor-anchor.ensures c.slot-t.ensures (refused_gives _ (ap refused_by (sym c.number-then-not-has_room.ensures)))
-          (row_full (known_bytes _ (search rules)) (past_guard _ _ (decoded_some _ c.requires) (sym c.guard.ensures ∙ c.in_default.is)) _ c.top_place-place.ensures c.has_room.ensures (value_at _ _ _ _ c.served_row.ensures c.in-Some.is) c.if-not-has_room.true),
-      c.requires,
-    )
+  slot_exported get c.args.s.now c.args.number c.args.hash.now c.args.slot.now c.args.reply.now c.slot_enough.ensures c.if-not-slot_enough.false c.anchor-anchor.ensures c.slot-t.ensures (refused_gives _ (ap refused_by (sym c.number-then-not-has_room.ensures)))
+      (row_full (known_bytes _ (search rules)) (past_guard _ _ (decoded_some _ c.requires) (sym c.guard.ensures ∙ c.in_default.is)) _ c.top_place-place.ensures c.has_room.ensures (value_at _ _ _ _ c.served_row.ensures c.in-Some.is) c.if-not-has_room.true),
+  c.requires,
+)
 
 pub returns : goal.returns
 returns c =
