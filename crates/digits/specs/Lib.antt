@@ -1,2 +1,2 @@
 -- The definitions that the contracts of `digits` cite.
-pub mod Written
+pub mod Output

@@ -1,28 +1,25 @@
 -- `listing::slot_line` meets its contract. Assumes nothing.
-use Prim.Native.Nat.{◌≤◌}
-use mathlib.Core.List.{[], ◌∷◌}
 use native.Mathlib.Omega.{arith}
-use lib.ListN.{length, length-append}
-use Rattle.call_list.specs.Listing.{ascii, line, slot_hex}
-use Rattle.digits.proofs.Writing.{written_then}
+use Rattle.call_list.specs.Listing.{ascii, line}
+use Rattle.digits.proofs.Writing.{written_then, room_left}
 use Rattle.digits.proofs.Digits.{slot_hex_length}
+use Rattle.listing.proofs.Lengths.{slot_line_length}
 use Rattle.listing.proofs.slot_line.Goals as goal
 
-pub write_bytes-digits-requires : goal.write_bytes-digits-requires
-unfolding line ascii
-write_bytes-digits-requires c = let a = c.args in omega (arith, length-append (slot_hex a.s) (10 ∷ []))
+pub write_bytes-requires : goal.write_bytes-requires
+write_bytes-requires c = omega (arith, slot_line_length c.args.s)
 
-pub write_slot-end-requires : goal.write_slot-end-requires
-unfolding line ascii
-write_slot-end-requires c = let a = c.args in omega (arith, length-append (slot_hex a.s) (10 ∷ []), slot_hex_length a.s)
+pub write_slot-requires : goal.write_slot-requires
+write_slot-requires c = room_left 104 c.write_bytes.ensures (omega (arith, slot_line_length c.args.s))
 
 pub write_byte-requires : goal.write_byte-requires
-unfolding line ascii
-write_byte-requires c = let a = c.args in omega (arith, length-append (slot_hex a.s) (10 ∷ []), slot_hex_length a.s)
+write_byte-requires c =
+    let a = c.args in
+    let digits = room_left 105 c.write_bytes.ensures (omega (arith, slot_line_length a.s)) in
+    room_left 1 c.write_slot.ensures (omega (arith, digits, slot_hex_length a.s))
 
 pub returns : goal.returns
 unfolding line ascii
 returns c =
-    let a = c.args in
-    let h : a.at ≤ length a.out.now = omega arith in
-    written_then h (written_then h c.write_bytes-digits.ensures c.write_slot-end.ensures) c.write_byte.ensures
+    let h = c.args.out.now.within in
+    written_then h (written_then h c.write_bytes.ensures c.write_slot.ensures) c.write_byte.ensures

@@ -1,28 +1,25 @@
 -- `listing::value_line` meets its contract. Assumes nothing.
-use Prim.Native.Nat.{◌≤◌}
-use mathlib.Core.List.{[], ◌∷◌}
 use native.Mathlib.Omega.{arith}
-use lib.ListN.{length, length-append}
-use Rattle.call_list.specs.Listing.{ascii, line, u256_hex}
-use Rattle.digits.proofs.Writing.{written_then}
+use Rattle.call_list.specs.Listing.{ascii, line}
+use Rattle.digits.proofs.Writing.{written_then, room_left}
 use Rattle.digits.proofs.Digits.{u256_hex_length}
+use Rattle.listing.proofs.Lengths.{value_line_length}
 use Rattle.listing.proofs.value_line.Goals as goal
 
-pub write_bytes-digits-requires : goal.write_bytes-digits-requires
-unfolding line ascii
-write_bytes-digits-requires c = let a = c.args in omega (arith, length-append (u256_hex a.v) (10 ∷ []))
+pub write_bytes-requires : goal.write_bytes-requires
+write_bytes-requires c = omega (arith, value_line_length c.args.v)
 
-pub write_u256-end-requires : goal.write_u256-end-requires
-unfolding line ascii
-write_u256-end-requires c = let a = c.args in omega (arith, length-append (u256_hex a.v) (10 ∷ []), u256_hex_length a.v)
+pub write_u256-requires : goal.write_u256-requires
+write_u256-requires c = room_left 64 c.write_bytes.ensures (omega (arith, value_line_length c.args.v))
 
 pub write_byte-requires : goal.write_byte-requires
-unfolding line ascii
-write_byte-requires c = let a = c.args in omega (arith, length-append (u256_hex a.v) (10 ∷ []), u256_hex_length a.v)
+write_byte-requires c =
+    let a = c.args in
+    let digits = room_left 65 c.write_bytes.ensures (omega (arith, value_line_length a.v)) in
+    room_left 1 c.write_u256.ensures (omega (arith, digits, u256_hex_length a.v))
 
 pub returns : goal.returns
 unfolding line ascii
 returns c =
-    let a = c.args in
-    let h : a.at ≤ length a.out.now = omega arith in
-    written_then h (written_then h c.write_bytes-digits.ensures c.write_u256-end.ensures) c.write_byte.ensures
+    let h = c.args.out.now.within in
+    written_then h (written_then h c.write_bytes.ensures c.write_u256.ensures) c.write_byte.ensures
