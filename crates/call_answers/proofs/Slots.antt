@@ -3,12 +3,13 @@ use Prim.Native.Nat.{ℕ, ◌+◌, ◌*◌, ◌≤◌, ◌<◌}
 use mathlib.Core.Path.{◌≡◌, sym, ap, ◌∙◌}
 use mathlib.Core.List.{List, [], ◌∷◌, ◌++◌}
 use native.Mathlib.Numerals.{add-one}
-use lib.ListN.{length, drop}
+use native.Mathlib.Omega.{arith}
+use lib.ListN.{length, drop, length-append}
 use Rattle.model.specs.declared.delta_snapshot.Slot.{Slot}
 use Rattle.model.specs.Entries.{slot_of, first_slots}
 use Rattle.words.specs.Parts.{part}
 use Rattle.call_list.specs.Listing.{ascii, line, slot_hex, slot_lines}
-use Rattle.listing.proofs.Lengths.{slot_lines_length}
+use Rattle.listing.proofs.Lengths.{slot_line_length, slot_lines_length}
 use Rattle.seed.proofs.Entries.{length_chunks, chunk_at, none_left}
 
 -- The slots from the i-th on.
@@ -28,6 +29,12 @@ length_first n b = length_chunks slot_of 52 n b
 pub lines_at : (i n : ℕ) (b : List ℕ) → i < n → slot_lines (slots_from i n b) ≡ line (ascii "slot") (slot_hex (slot_of (part (i * 52) 52 b)) ∷ []) ++ slot_lines (slots_from (i + 1) n b)
 unfolding slot_lines
 lines_at i n b h = ap slot_lines (slot_at i n b h)
+
+pub lines_at_length : (i n : ℕ) (b : List ℕ) → i < n → 110 ≤ length (slot_lines (slots_from i n b))
+lines_at_length i n b h =
+    let s : Slot = slot_of (part (i * 52) 52 b) in
+    let rest : List ℕ = slot_lines (slots_from (i + 1) n b) in
+    omega (arith, ap length (lines_at i n b h), length-append (line (ascii "slot") (slot_hex s ∷ [])) rest, slot_line_length s)
 
 pub lines_end : (i n : ℕ) (b : List ℕ) → n ≤ i → slot_lines (slots_from i n b) ≡ []
 unfolding slot_lines

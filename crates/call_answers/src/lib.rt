@@ -6,10 +6,11 @@ ghost use Rattle.model.specs.Entries.{first_slots};
 ghost use Rattle.model.specs.Store.{listed};
 ghost use Rattle.replies.specs.Replies.{install_reply, look_reply, read_reply, answer_reply, advance_reply};
 ghost use Rattle.call_list.specs.Listing.{slot_lines, report_lines, answer_lines};
-ghost use Rattle.digits.specs.Written.{Written};
+ghost use Rattle.digits.specs.Output.{Room, Writes};
 ghost use Rattle.listing.specs.Lines.{counts_line};
 ghost use Rattle.call_answers.specs.Answers.{report_of, reply_of, counts_in, slots_in, slots_listed};
 
+use digits::Output;
 use listing::AdvanceCounts;
 use model::refusal::Refusal;
 use model::storage_memo::U256;
@@ -96,30 +97,28 @@ impl From<DeltaReport> for CallAnswer {
 }
 
 // The lines of the first n slots of an output.
-fn slot_lines(out: &mut [u8], at: usize, entries: &[u8], n: usize) -> usize
-    requires { (n * 52 ≤ length entries.now) × (at + 110 * n ≤ length out.old) }
-    ensures { Written at (slot_lines (first_slots n entries.now)) out.old out.new result }
+fn slot_lines(out: &mut Output, entries: &[u8], n: usize)
+    requires { (n * 52 ≤ length entries.now) × Room (110 * n) out.old }
+    ensures { Writes (slot_lines (first_slots n entries.now)) out.old out.new }
 {
-    let mut next = at;
     for i in 0..n {
-        next = listing::slot_line(out, next, reader::slot_at(entries, i * 52));
+        listing::slot_line(out, reader::slot_at(entries, i * 52));
     }
-    next
 }
 
 // The lines of a take.
-fn take_lines(out: &mut [u8], at: usize, entries: &[u8], n: usize) -> usize
-    requires { (n * 52 ≤ length entries.now) × (at + 26 + 110 * n ≤ length out.old) }
-    ensures { Written at (report_lines (listed (first_slots n entries.now))) out.old out.new result }
+fn take_lines(out: &mut Output, entries: &[u8], n: usize)
+    requires { (n * 52 ≤ length entries.now) × Room (26 + 110 * n) out.old }
+    ensures { Writes (report_lines (listed (first_slots n entries.now))) out.old out.new }
 {
-    let next = listing::word_line(out, at, b"take", &[n as u64]);
-    slot_lines(out, next, entries, n)
+    listing::word_line(out, b"take", &[n as u64]);
+    slot_lines(out, entries, n);
 }
 
 // The line of an advance.
-fn advance_line(out: &mut [u8], at: usize, report: DeltaReport) -> usize
-    requires { at + 197 ≤ length out.old }
-    ensures { Written at (counts_line report.outcome (counts_in report)) out.old out.new result }
+fn advance_line(out: &mut Output, report: DeltaReport)
+    requires { Room 197 out.old }
+    ensures { Writes (counts_line report.outcome (counts_in report)) out.old out.new }
 {
     let outcome = report.outcome;
     let writes = report.writes;
@@ -134,40 +133,40 @@ fn advance_line(out: &mut [u8], at: usize, report: DeltaReport) -> usize
         left: fold.left as u64,
         dropped: fold.dropped as u64,
     };
-    listing::advance_line(out, at, outcome, counts)
+    listing::advance_line(out, outcome, counts);
 }
 
 // The lines of an accepted call.
-fn report_lines(out: &mut [u8], at: usize, a: CallAnswer, entries: &[u8]) -> usize
-    requires { (slots_in a * 52 ≤ length entries.now) × (at + 197 + 110 * slots_in a ≤ length out.old) }
-    ensures { Written at (report_lines (report_of a entries.now)) out.old out.new result }
+fn report_lines(out: &mut Output, a: CallAnswer, entries: &[u8])
+    requires { (slots_in a * 52 ≤ length entries.now) × Room (197 + 110 * slots_in a) out.old }
+    ensures { Writes (report_lines (report_of a entries.now)) out.old out.new }
 {
     match a {
-        CallAnswer::Open => listing::word_line(out, at, b"open", &[]),
-        CallAnswer::AnchorSame => listing::word_line(out, at, b"anchor same", &[]),
-        CallAnswer::AnchorFresh => listing::word_line(out, at, b"anchor fresh", &[]),
-        CallAnswer::Advance(report) => advance_line(out, at, report),
-        CallAnswer::Value(v) => listing::value_line(out, at, v),
-        CallAnswer::Nothing => listing::word_line(out, at, b"none", &[]),
-        CallAnswer::Put => listing::word_line(out, at, b"put", &[]),
-        CallAnswer::Wait(n) => listing::word_line(out, at, b"wait", &[n]),
-        CallAnswer::Take(n) => take_lines(out, at, entries, n),
+        CallAnswer::Open => listing::word_line(out, b"open", &[]),
+        CallAnswer::AnchorSame => listing::word_line(out, b"anchor same", &[]),
+        CallAnswer::AnchorFresh => listing::word_line(out, b"anchor fresh", &[]),
+        CallAnswer::Advance(report) => advance_line(out, report),
+        CallAnswer::Value(v) => listing::value_line(out, v),
+        CallAnswer::Nothing => listing::word_line(out, b"none", &[]),
+        CallAnswer::Put => listing::word_line(out, b"put", &[]),
+        CallAnswer::Wait(n) => listing::word_line(out, b"wait", &[n]),
+        CallAnswer::Take(n) => take_lines(out, entries, n),
         CallAnswer::Answer {
             members,
             errors,
             woken,
-        } => listing::word_line(out, at, b"answer", &[members, errors, woken]),
+        } => listing::word_line(out, b"answer", &[members, errors, woken]),
     }
 }
 
 // The lines of a reply.
 #[tactic(auto, using(listing::proofs::Lengths::refusal_line_length), unfolding(call_list::specs::Listing::answer_lines))]
-pub fn answer_lines(out: &mut [u8], at: usize, r: CallReply, entries: &[u8]) -> usize
-    requires { (slots_listed r * 52 ≤ length entries.now) × (at + 197 + 110 * slots_listed r ≤ length out.old) }
-    ensures { Written at (answer_lines (reply_of r entries.now)) out.old out.new result }
+pub fn answer_lines(out: &mut Output, r: CallReply, entries: &[u8])
+    requires { (slots_listed r * 52 ≤ length entries.now) × Room (197 + 110 * slots_listed r) out.old }
+    ensures { Writes (answer_lines (reply_of r entries.now)) out.old out.new }
 {
     match r {
-        Err(refusal) => listing::refusal_line(out, at, refusal.number()),
-        Ok(a) => report_lines(out, at, a, entries),
+        Err(refusal) => listing::refusal_line(out, refusal.number()),
+        Ok(a) => report_lines(out, a, entries),
     }
 }

@@ -20,8 +20,7 @@ use Rattle.call_laws.specs.Runs.{lent_each}
 use Rattle.model.proofs.EntryLaws.{bytes_drop}
 use Rattle.call_laws.proofs.Parses.{ReadOn, parsed_call}
 use Rattle.call_laws.proofs.Listing.{bytes_lines, final_none, final_one, final_then, lines_none, lines_one, lines_then}
-use Rattle.digits.specs.Written.{Written}
-use Rattle.digits.proofs.Writing.{written_as}
+use Rattle.words.specs.Parts.{placed}
 use Rattle.listing.proofs.Lengths.{refusal_line_length}
 use Rattle.call_answers.specs.Answers.{CallReply, reply_of}
 use Rattle.call_steps.specs.Steps.{with_lent, SteppedAs}
@@ -90,26 +89,25 @@ ran_then w e list b out t b1 out1 r b2 out2 q u go v =
 
 -- A text that was written for calls.
 ran_text : (w e : ℕ) (list b out : List ℕ) (t : Progress) (after out_after : List ℕ) (r : Progress) (text : List ℕ) (to : ℕ) (cs : List ListedCall)
-    → Written t.at text out out_after r.at → t.at + length text ≤ length out
+    → out_after ≡ placed t.at text out → r.at ≡ t.at + length text → t.at + length text ≤ length out
     → CallsTo list t.next to cs → Reached list to r
     → after ≡ bytes_final b (lent_each default_limits w e cs) → text ≡ bytes_lines default_limits w e b cs ++ end_line (fault_met r.fault)
     → r.known ≡ is_some (decode after) → r.ended ≡ leb (length list) r.next
     → RunOn w e list t b out r after out_after
-ran_text w e list b out t after out_after r text to cs wr h calls reached bytes lines known ended =
-    let n : length out_after ≡ length out = ap length wr.bytes ∙ placed_length t.at text out h in
-    let p = wr.next_place in
+ran_text w e list b out t after out_after r text to cs written p h calls reached bytes lines known ended =
+    let n : length out_after ≡ length out = ap length written ∙ placed_length t.at text out h in
     record {
       to = to;
       calls = cs;
       calls_are = calls;
       reached = reached;
       bytes_are = bytes;
-      text_is = ap₂ (λ (k : ℕ) (x : List ℕ). drop t.at (take k x)) p wr.bytes ∙ placed_text t.at text out h ∙ lines;
+      text_is = ap₂ (λ (k : ℕ) (x : List ℕ). drop t.at (take k x)) p written ∙ placed_text t.at text out h ∙ lines;
       now_at = record { known_is = known; ended_is = ended; room = omega arith };
       same_length = n;
       further = omega arith;
-      before_is = ap (take t.at) wr.bytes ∙ placed_before t.at text out h;
-      rest_is = ap₂ (λ (k : ℕ) (x : List ℕ). drop k x) p wr.bytes ∙ placed_rest t.at text out h ∙ ap (λ (k : ℕ). drop k out) (sym p);
+      before_is = ap (take t.at) written ∙ placed_before t.at text out h;
+      rest_is = ap₂ (λ (k : ℕ) (x : List ℕ). drop k x) p written ∙ placed_rest t.at text out h ∙ ap (λ (k : ℕ). drop k out) (sym p);
     }
 
 -- Bytes are left where the list has not ended.
@@ -121,15 +119,16 @@ pub ran_call : (w : ℕ) (entries list b out : List ℕ) (t : Progress) (after o
     → Bytes list → RunAt t list b out → t.at + call_lines ≤ length out
     → parsed c (drop r.next list) ≡ parse_call (drop t.next list) → (t.next < r.next) × (r.next ≤ length list)
     → SteppedAs p after entries_after (bytes_step b (with_lent (meaning default_limits c) w entries)) entries
-    → Written t.at (answer_lines (reply_of p entries_after)) out out_after r.at
+    → out_after ≡ placed t.at (answer_lines (reply_of p entries_after)) out → r.at ≡ t.at + length (answer_lines (reply_of p entries_after))
     → r.known ≡ store_after t.known p → r.ended ≡ leb (length list) r.next → r.fault ≡ None
     → RunOn w (length entries / 52) list t b out r after out_after
-ran_call w entries list b out t after out_after r c p entries_after f h room parse on s wr known ended whole =
+ran_call w entries list b out t after out_after r c p entries_after f h room parse on s written next known ended whole =
     let e : ℕ = length entries / 52 in
     let k : Call = meaning default_limits c in
     let o : BytesResult = bytes_step b (with_lent k w entries) in
     let q : ReadOn c (drop r.next list) (drop t.next list) = parsed_call (drop t.next list) c (drop r.next list) (bytes_drop t.next list f) (sym parse) in
-    ran_text w e list b out t after out_after r (answer_lines o.answer) r.next (c ∷ []) (written_as wr (ap answer_lines s.answer_is)) (omega (arith, lines_fit_lent b k w entries))
+    let said : answer_lines (reply_of p entries_after) ≡ answer_lines o.answer = ap answer_lines s.answer_is in
+    ran_text w e list b out t after out_after r (answer_lines o.answer) r.next (c ∷ []) (written ∙ ap (λ (x : List ℕ). placed t.at x out) said) (next ∙ ap (λ (x : List ℕ). t.at + length x) said) (omega (arith, lines_fit_lent b k w entries))
     (call_then (sym parse) on.0 on.1 no_call)
     (reached_next list r whole)
     (s.bytes_is ∙ sym (final_one default_limits w e b c))
@@ -138,18 +137,17 @@ ran_call w entries list b out t after out_after r c p entries_after f h room par
     ended
 
 -- A fault, which ends the list.
-pub ran_fault : (w e : ℕ) (list b out : List ℕ) (t : Progress) (out_after : List ℕ) (f : Fault) (at : ℕ)
+pub ran_fault : (w m : ℕ) (list b out : List ℕ) (t : Progress) (out_after : List ℕ) (f : Fault) (at n : ℕ)
     → RunAt t list b out → t.at + call_lines ≤ length out → FaultAt list t.next (fault_number f.kind) f.place.at
-    → Written t.at (refusal_line (fault_number f.kind)) out out_after at
-    → RunOn w e list t b out (broken_at list t f at) b out_after
-ran_fault w e list b out t out_after f at h room k wr =
+    → n ≡ fault_number f.kind → out_after ≡ placed t.at (refusal_line n) out → at ≡ t.at + length (refusal_line n)
+    → RunOn w m list t b out (broken_at list t f at) b out_after
+ran_fault w m list b out t out_after f at n h room k e written next =
     let r : Progress = broken_at list t f at in
-    let n : ℕ = fault_number f.kind in
-    ran_text w e list b out t b out_after r (refusal_line n) t.next [] wr (omega (arith, refusal_line_length n))
+    ran_text w m list b out t b out_after r (refusal_line n) t.next [] written next (omega (arith, refusal_line_length n))
     no_call
     (reached_fault list t.next r f k refl refl)
-    (sym (final_none default_limits w e b))
-    (sym (ap (λ (x : List ℕ). x ++ refusal_line n) (lines_none default_limits w e b)))
+    (sym (final_none default_limits w m b))
+    (ap refusal_line e ∙ sym (ap (λ (x : List ℕ). x ++ refusal_line (fault_number f.kind)) (lines_none default_limits w m b)))
     h.known_is
     (sym (le-leb (length list) (length list) (omega arith)))
 

@@ -9,6 +9,7 @@ ghost use Rattle.call_run.specs.Program.{ProgramPrints};
 
 pub use call_progress::CALL_LINES;
 use call_progress::Progress;
+use digits::Output;
 use model::refusal::Refusal;
 use reader::{Cursor, Fault, Reader};
 
@@ -45,16 +46,20 @@ fn run_call(
     ensures forward { (t.next < result.next) × (result.next ≤ length list.now) }
 {
     let mut from = Reader { list, at: t.next };
+    let mut lines = Output {
+        bytes: out,
+        at: t.at,
+    };
     match call_reader::read_call(&mut from) {
         Ok(call) => {
             let reply = call_steps::step(list, call, t.known, s, work, entries, members);
-            let at = call_answers::answer_lines(out, t.at, reply, entries);
-            call_progress::after_call(list, t, reply, Cursor { at: from.at }, at)
+            call_answers::answer_lines(&mut lines, reply, entries);
+            call_progress::after_call(list, t, reply, Cursor { at: from.at }, lines.at)
         }
         Err(kind) => {
-            let at = listing::refusal_line(out, t.at, u64::from(kind));
+            listing::refusal_line(&mut lines, u64::from(kind));
             let place = Cursor { at: from.at };
-            call_progress::after_fault(list, t, Fault { kind, place }, at)
+            call_progress::after_fault(list, t, Fault { kind, place }, lines.at)
         }
     }
 }
