@@ -6,6 +6,7 @@ ghost use Rattle.std.specs.Prelude.{◌≡◌, ◌≤◌, length};
 ghost use Rattle.call_answers.specs.Answers.{slots_listed};
 
 use call_answers::{CallAnswer, CallReply};
+use digits::Output;
 use listing::AdvanceCounts;
 use model::bal_prefetch::BalSkip;
 use model::delta_snapshot::Slot;
@@ -22,13 +23,12 @@ fn say(rt: &impl Print, text: &[u8]) -> io::Result<()> {
 fn compare(
     rt: &impl Print,
     name: &[u8],
-    out: &[u8],
-    next: usize,
+    out: &Output,
     expected: &[u8],
     end: usize,
 ) -> io::Result<()> {
     say(rt, name)?;
-    if out == expected && next == end {
+    if out.bytes.starts_with(expected) && out.at == end {
         say(rt, b": the same\n")
     } else {
         say(rt, b": other bytes\n")
@@ -37,12 +37,15 @@ fn compare(
 
 // The same of a call's reply that lists no slots.
 fn reply(rt: &impl Print, name: &[u8], r: CallReply, expected: &[u8]) -> io::Result<()>
-    requires { (slots_listed r ≡ 0) × (4 ≤ length expected.now) × (length expected.now ≤ 199) }
+    requires { (slots_listed r ≡ 0) × (2 ≤ length expected.now) }
 {
-    let mut out = [46u8; 199];
-    let next = call_answers::answer_lines(&mut out, 2, r, &[]);
-    let n = expected.len();
-    compare(rt, name, &out[..n], next, expected, n - 2)
+    let mut bytes = [46u8; 199];
+    let mut out = Output {
+        bytes: &mut bytes,
+        at: 2,
+    };
+    call_answers::answer_lines(&mut out, r, &[]);
+    compare(rt, name, &out, expected, expected.len() - 2)
 }
 
 // Lines of words alone.
@@ -75,8 +78,12 @@ fn numbers(rt: &impl Print) -> io::Result<()> {
     )?;
     reply(rt, b"wait", Ok(CallAnswer::Wait(105)), b"..wait 105\n..")?;
     let mut take = [46u8; 12];
-    let take_end = listing::word_line(&mut take, 2, b"take", &[64]);
-    compare(rt, b"take", &take, take_end, b"..take 64\n..", 10)?;
+    let mut take_out = Output {
+        bytes: &mut take,
+        at: 2,
+    };
+    listing::word_line(&mut take_out, b"take", &[64]);
+    compare(rt, b"take", &take_out, b"..take 64\n..", 10)?;
     let answered = CallAnswer::Answer {
         members: 12,
         errors: 3,
@@ -98,22 +105,22 @@ fn advances(rt: &impl Print) -> io::Result<()> {
         dropped: 18446744073709551615,
     };
     let mut current = [46u8; 17];
-    let current_end = listing::advance_line(&mut current, 2, CarryOutcome::AlreadyCurrent, counts);
-    compare(
-        rt,
-        b"current",
-        &current,
-        current_end,
-        b"..current 50 6\n..",
-        15,
-    )?;
+    let mut current_out = Output {
+        bytes: &mut current,
+        at: 2,
+    };
+    listing::advance_line(&mut current_out, CarryOutcome::AlreadyCurrent, counts);
+    compare(rt, b"current", &current_out, b"..current 50 6\n..", 15)?;
     let mut carried = [46u8; 50];
-    let carried_end = listing::advance_line(&mut carried, 2, CarryOutcome::Carried(1), counts);
+    let mut carried_out = Output {
+        bytes: &mut carried,
+        at: 2,
+    };
+    listing::advance_line(&mut carried_out, CarryOutcome::Carried(1), counts);
     compare(
         rt,
         b"carried",
-        &carried,
-        carried_end,
+        &carried_out,
         b"..carried 1 2 3 4 50 6 7 8 18446744073709551615\n..",
         48,
     )?;
@@ -122,15 +129,12 @@ fn advances(rt: &impl Print) -> io::Result<()> {
         lineage: Lineage::ParentHashMismatch,
         bal: BalSkip::Decode,
     };
-    let cold_end = listing::advance_line(&mut cold, 2, outcome, counts);
-    compare(
-        rt,
-        b"cold",
-        &cold,
-        cold_end,
-        b"..cold 4 3 2 3 4 50 6\n..",
-        22,
-    )
+    let mut cold_out = Output {
+        bytes: &mut cold,
+        at: 2,
+    };
+    listing::advance_line(&mut cold_out, outcome, counts);
+    compare(rt, b"cold", &cold_out, b"..cold 4 3 2 3 4 50 6\n..", 22)
 }
 
 fn number() -> U256 {
@@ -145,12 +149,15 @@ fn number() -> U256 {
 // Lines with hex digits.
 fn digits(rt: &impl Print) -> io::Result<()> {
     let mut value = [46u8; 75];
-    let value_end = listing::value_line(&mut value, 2, number());
+    let mut value_out = Output {
+        bytes: &mut value,
+        at: 2,
+    };
+    listing::value_line(&mut value_out, number());
     compare(
         rt,
         b"value",
-        &value,
-        value_end,
+        &value_out,
         b"..value 0123456789abcdef0000000000000000fedcba9876543210000000000000000a\n..",
         73,
     )?;
@@ -163,12 +170,15 @@ fn digits(rt: &impl Print) -> io::Result<()> {
         },
         index: number(),
     };
-    let slot_end = listing::slot_line(&mut slot, 2, s);
+    let mut slot_out = Output {
+        bytes: &mut slot,
+        at: 2,
+    };
+    listing::slot_line(&mut slot_out, s);
     compare(
         rt,
         b"slot",
-        &slot,
-        slot_end,
+        &slot_out,
         b"..slot 00000abc0000000000000001ffffffffffffffff0123456789abcdef0000000000000000fedcba9876543210000000000000000a\n..",
         112,
     )

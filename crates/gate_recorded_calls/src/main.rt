@@ -6,6 +6,7 @@ ghost use Rattle.std.specs.Prelude.{◌≤◌, ◌<◌, length, IfOk};
 
 use call_reader::ListedCall;
 use call_run::RunEnd;
+use digits::Output;
 use reader::{Cursor, Fault, Reader};
 use std::io::Read;
 use std::{fs, io};
@@ -52,7 +53,11 @@ fn print_slot(rt: &impl Print, entries: &[u8], i: usize) -> io::Result<()> {
     }
     let mut line = [0u8; 110];
     let slot = reader::slot_at(entries, i * 52);
-    listing::slot_line(&mut line, 0, slot);
+    let mut out = Output {
+        bytes: &mut line,
+        at: 0,
+    };
+    listing::slot_line(&mut out, slot);
     say(rt, b"  ")?;
     say(rt, &line)
 }
