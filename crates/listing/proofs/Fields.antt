@@ -29,10 +29,6 @@ fields_turn ns i h = ap fields (drop-cons ns i 0 h ∙ ap (λ (k : ℕ). get_or 
 pub fields_turn_length : (ns : List ℕ) (i : ℕ) → i < length ns → length (fields (drop i ns)) ≡ 1 + length (decimal (get_or ns i 0)) + length (fields (drop (i + 1) ns))
 fields_turn_length ns i h = omega (arith, ap length (fields_turn ns i h), length-append (decimal (get_or ns i 0)) (fields (drop (i + 1) ns)))
 
-pub fields_next : (at : ℕ) {next total : ℕ} (ns : List ℕ) (i : ℕ) → i < length ns → next ≡ at + length (32 ∷ decimal (get_or ns i 0))
-    → at + length (fields (drop i ns)) ≡ total → next + length (fields (drop (i + 1) ns)) ≡ total
-fields_next at ns i h e t = omega (arith, fields_turn_length ns i h)
-
 -- no number is left
 pub fields_done : (ns : List ℕ) (i : ℕ) → length ns ≤ i → fields (drop i ns) ≡ 10 ∷ []
 unfolding fields
