@@ -1,8 +1,15 @@
 -- What is given: a refusal's number, or words that are written. Assumes nothing.
 use Rattle.std.specs.Prelude.{None, Option, Some, Ok, Err}
-use Prim.Native.Nat.{ℕ}
-use mathlib.Core.Path.{◌≡◌, refl, sym, ap, ap₂, subst}
-use mathlib.Core.List.{List, [], ◌∷◌, ◌++◌}
+use Prim.Native.Nat.{ℕ, ◌+◌, ◌*◌, ◌≤◌}
+use mathlib.Core.Path.{◌≡◌, refl, sym, ap, ap₂, subst, ◌∙◌}
+use mathlib.Core.List.{List, [], ◌∷◌, ◌++◌, append_assoc}
+use native.Mathlib.Omega.{arith}
+use lib.ListN.{length, take, drop, take-append-drop}
+use lib.Seq.{length-take-le}
+use Rattle.std.proofs.lemmas.List.{drop-append-le}
+use Rattle.words.specs.Parts.{placed}
+use Rattle.image.specs.Image.{bytes_of}
+use Rattle.image.proofs.Words.{length_bytes_of}
 use Rattle.model.specs.declared.storage_memo.U256.{U256}
 use Rattle.model.specs.Contents.{value_words}
 use Rattle.model.specs.Entries.{slot_of, write_of}
@@ -79,3 +86,13 @@ pub seed_given : (r : FinalWritesReply) (wo ro : List ℕ) → reply_given seed_
 seed_given (Err e) wo ro = refl
 seed_given (Ok c) wo ro =
     ap₂ (λ (m n : ℕ). accepted (m ∷ n ∷ c.filtered ∷ c.capped ∷ [])) (sym (length_chunks write_of 84 c.writes wo)) (sym (length_chunks slot_of 52 c.reads ro))
+
+-- Words written to the first n bytes of a reply, which are as many after it.
+first_placed : (n : ℕ) (v r : List ℕ) → n ≤ length r → length v ≤ n → placed 0 v (take n r) ++ drop n r ≡ placed 0 v r
+first_placed n v r h l =
+    let k : 0 + length v ≤ length (take n r) = omega (arith, length-take-le n r h) in
+    append_assoc v (drop (0 + length v) (take n r)) (drop n r)
+    ∙ ap (λ (x : List ℕ). v ++ x) (sym (drop-append-le (0 + length v) (take n r) (drop n r) k) ∙ ap (drop (0 + length v)) (take-append-drop n r))
+
+pub first_written : (n : ℕ) (ws r : List ℕ) {s t : List ℕ} → s ≡ take n r → t ≡ with_words ws s → n ≤ length r → 8 * length ws ≤ n → t ++ drop n r ≡ with_words ws r
+first_written n ws r p q h l = ap (λ (x : List ℕ). x ++ drop n r) (q ∙ ap (with_words ws) p) ∙ first_placed n (bytes_of ws) r h (omega (arith, length_bytes_of ws, l))

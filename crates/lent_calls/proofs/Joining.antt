@@ -1,9 +1,9 @@
 -- What a function of the store ensures, and what is then given, as the contract of an exported function. Assumes nothing.
-use Prim.Native.Nat.{ℕ, ◌≤◌, ◌<◌}
-use mathlib.Core.Path.{◌≡◌, refl, sym, ap, subst, ◌∙◌}
-use mathlib.Core.Bool.{Bool, true, false, cond}
+use Prim.Native.Nat.{ℕ, ◌≤◌}
+use mathlib.Core.Path.{◌≡◌, sym, ap, subst, ◌∙◌}
+use mathlib.Core.Bool.{Bool, true, cond}
 use mathlib.Core.List.{List}
-use borrow.Author.Tests.{lt-leb, le-leb}
+use borrow.Author.Tests.{le-leb}
 use Rattle.model.specs.Refusals.{Answer, refuse}
 use Rattle.image.specs.Image.{BytesResult}
 use Rattle.image.specs.Output.{output_after}
@@ -14,26 +14,12 @@ use Rattle.call_run.specs.Run.{RunReply}
 use Rattle.call_run.specs.Run.{RanAs}
 use Rattle.final_writes.specs.FinalWrites.{FinalWrites}
 use Rattle.final_writes.specs.Lent.{FinalWritesReply, final_writes_reply, Answers}
-use Rattle.lent_calls.specs.ReplyWords.{Given, Gives, answer_given, run_given, final_given}
-use Rattle.lent_calls.specs.Exported.{lent_step, lent_given, lent_final, known_form, Exported, ExportedOutput, ExportedRun, ExportedFinal}
-use Rattle.lent_calls.proofs.Giving.{refused_gives}
+use Rattle.lent_calls.specs.ReplyWords.{Gives, answer_given, run_given, final_given}
+use Rattle.lent_calls.specs.Exported.{lent_step, lent_final, known_form, Exported, ExportedOutput, ExportedRun, ExportedFinal}
 
--- The test of the arguments: they do not fit, or they do.
-module _ {r fits : Bool} (e : r ≡ fits) where
-  pub unfit : r ≡ false → fits ≡ false
-  unfit t = sym e ∙ t
-
-  pub fit : r ≡ true → fits ≡ true
-  fit t = sym e ∙ t
-
--- A call with arguments that do not fit.
-module _ (b reply : List ℕ) (o : BytesResult) {fits : Bool} (f : fits ≡ false) where
-  pub short_exported : Exported 9 b reply (lent_step fits b o) reply
-  short_exported = subst (λ (t : Bool). Exported 9 b reply (lent_step t b o) reply) (sym f) (record { gives = refused_gives 9 refl; bytes_is = refl })
-
-  pub short_output : (out : List ℕ) → ExportedOutput 9 b reply out (lent_step fits b o) reply out
-  short_output out =
-      subst (λ (t : Bool). ExportedOutput 9 b reply out (lent_step t b o) reply out) (sym f) (record { gives = refused_gives 9 refl; bytes_is = refl; output_is = refl })
+-- The arguments fit, by their test.
+pub fit : {r fits : Bool} → r ≡ fits → r ≡ true → fits ≡ true
+fit e t = sym e ∙ t
 
 -- What is given of an answer, as given of one that equals it.
 given_as : {code : ℕ} {replied reply : List ℕ} {a a' : Answer} → a ≡ a' → Gives code replied (answer_given a) reply → Gives code replied (answer_given a') reply
@@ -62,36 +48,17 @@ took_as {r} {after} {out_after} {out} e s = subst (λ (x : BytesResult). Took r 
 
 -- An open's form of retention -----------------------------------------------------------------------------
 
-module _ (form : ℕ) (b : List ℕ) (o : BytesResult) where
-  pub form_unknown : 1 < form → known_form form b o ≡ record { bytes = b; answer = refuse 3 }
-  form_unknown h = ap (λ (t : Bool). cond t o (record { bytes = b; answer = refuse 3 })) (lt-leb form 1 h)
-
-  pub form_known : form ≤ 1 → known_form form b o ≡ o
-  form_known h = ap (λ (t : Bool). cond t o (record { bytes = b; answer = refuse 3 })) (le-leb form 1 h)
+pub form_known : (form : ℕ) (b : List ℕ) (o : BytesResult) → form ≤ 1 → known_form form b o ≡ o
+form_known form b o h = ap (λ (t : Bool). cond t o (record { bytes = b; answer = refuse 3 })) (le-leb form 1 h)
 
 -- What else gives words -----------------------------------------------------------------------------------
 
-module _ (reply : List ℕ) (x : Given) {fits : Bool} where
-  pub short_given : fits ≡ false → Gives 9 reply (lent_given fits x) reply
-  short_given f = refused_gives 9 (ap (λ (t : Bool). lent_given t x) f)
-
-  pub long_given : fits ≡ true → {code : ℕ} {replied : List ℕ} → Gives code replied x reply → Gives code replied (lent_given fits x) reply
-  long_given f {code} {replied} g = subst (λ (t : Bool). Gives code replied (lent_given t x) reply) (sym f) g
-
 module _ (w e : ℕ) (list : List ℕ) (from : ℕ) (members before out reply : List ℕ) {fits : Bool} where
-  pub short_run : fits ≡ false → ExportedRun fits 9 w e list from members before out reply before out reply
-  short_run f =
-      subst (λ (t : Bool). ExportedRun t 9 w e list from members before out reply before out reply) (sym f) (refused_gives 9 refl, refl, refl)
-
   pub exported_run : fits ≡ true → {code : ℕ} {replied : List ℕ} (after out_after : List ℕ) (r : RunReply) → RanAs r w e list from members before out after out_after → Gives code replied (run_given r) reply → ExportedRun fits code w e list from members before out reply after out_after replied
   exported_run f {code} {replied} after out_after r h g =
       subst (λ (t : Bool). ExportedRun t code w e list from members before out reply after out_after replied) (sym f) (record { run_reply = r; ran = h; gives = g })
 
 module _ (reply wo ro : List ℕ) (x : FinalWrites) {fits : Bool} where
-  pub short_final : fits ≡ false → ExportedFinal 9 reply wo ro (lent_final fits x) reply wo ro
-  short_final f =
-      subst (λ (t : Bool). ExportedFinal 9 reply wo ro (lent_final t x) reply wo ro) (sym f) (record { gives = refused_gives 9 refl; writes_are = refl; reads_are = refl })
-
   pub exported_final : fits ≡ true → {code : ℕ} {replied wo' ro' : List ℕ} (r : FinalWritesReply) → Answers r wo' ro' x wo ro → Gives code replied (final_given (final_writes_reply r wo' ro')) reply → ExportedFinal code replied wo' ro' (lent_final fits x) reply wo ro
   exported_final f {code} {replied} {wo'} {ro'} r h g =
       let k : Gives code replied (final_given x) reply = subst (λ (y : FinalWrites). Gives code replied (final_given y) reply) h.answer_is g in

@@ -1,5 +1,4 @@
 -- Laws of what is lent to exported calls and of what they give, for this crate's proofs and its callers'.
-pub mod Lengths
 pub mod Ranges
 pub mod Giving
 pub mod Joining

@@ -1,5 +1,6 @@
 -- What the exported functions take and give, in numbers and bytes.
 pub mod Arguments
 pub mod ReplyWords
+pub mod Few
 pub mod Exported
 pub mod Steps

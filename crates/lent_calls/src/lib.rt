@@ -1,6 +1,7 @@
 // A call's arguments from lent bytes, and its reply as a number and as words in a lent output: what the exported functions (crate poxilme) take and give.
 #![tactic(auto)]
 
+ghost use Rattle.std.proofs.Common.{lit≤};
 ghost use Rattle.std.specs.Prelude.{◌≡◌, true, List, ◌∷◌, ◌++◌, [], ℕ, ◌+◌, ◌*◌, ◌≤◌, length, None};
 ghost use Rattle.layout.specs.Layout.{record_size, records_offset};
 ghost use Rattle.model.specs.Slots.{u256_words};
@@ -10,6 +11,7 @@ ghost use Rattle.image.specs.Image.{totals_words};
 ghost use Rattle.layers.specs.Answers.{row_content};
 ghost use Rattle.header.specs.Header.{lent_anchor};
 ghost use Rattle.lent_calls.specs.Arguments.{reply_size, reply_enough, hash_enough, anchored_enough, slot_enough, put_enough, advance_enough, lent_cap};
+ghost use Rattle.lent_calls.specs.Few.{few_installed, few_held, few_advanced, few_read, few_run};
 ghost use Rattle.lent_calls.specs.ReplyWords.{with_words, Gives, reply_given, count_words, unit_words, installed_words, advance_words, read_words, take_words, answered_words, run_words, seed_words};
 
 use call_run::RunEnd;
@@ -99,19 +101,10 @@ pub fn cap(n: u64) -> Option<u64>
 }
 
 // The words of a value: 1, and its four.
-fn write_value(reply: &mut [u8], v: U256)
-    requires { reply_size ≤ length reply.old }
+fn write_value(reply: &mut [u8; REPLY_SIZE], v: U256)
     ensures { reply.new ≡ with_words (1 ∷ u256_words v) reply.old }
 {
     image::write_words(reply, 0, [1, v.w0, v.w1, v.w2, v.w3]);
-}
-
-// The words of no value: five of 0.
-pub fn write_no_value(reply: &mut [u8])
-    requires { reply_size ≤ length reply.old }
-    ensures { reply.new ≡ with_words (value_words None) reply.old }
-{
-    image::write_words(reply, 0, [0, 0, 0, 0, 0]);
 }
 
 // The words of the value of record `row` of a store: 1, and the value's bytes, which stand in the record as in the reply. They go by an array of its own, so that they are compiled to whole moves: the compiler doesn't know that the reply is apart from the store.
@@ -127,8 +120,14 @@ pub fn write_row(reply: &mut [u8], s: &[u8], row: usize)
 }
 
 // An advance's words, by those of its outcome.
-fn write_report(reply: &mut [u8], kind: u64, carried: u64, lineage: u64, skip: u64, d: DeltaReport)
-    requires { reply_size ≤ length reply.old }
+fn write_report(
+    reply: &mut [u8; REPLY_SIZE],
+    kind: u64,
+    carried: u64,
+    lineage: u64,
+    skip: u64,
+    d: DeltaReport,
+)
     ensures { reply.new ≡ with_words ((kind ∷ carried ∷ lineage ∷ skip ∷ []) ++ count_words d) reply.old }
 {
     let ws = [
@@ -149,19 +148,23 @@ fn write_report(reply: &mut [u8], kind: u64, carried: u64, lineage: u64, skip: u
 }
 
 // What an accepted call answers, as words at the beginning of its reply.
-pub trait ReplyWords {
+pub trait ReplyWords: Copy {
     ghost words: { Self → List ℕ };
 
-    fn write(self, reply: &mut [u8])
-        requires { reply_size ≤ length reply.old }
+    fn write(self, reply: &mut [u8; REPLY_SIZE])
         ensures { reply.new ≡ with_words (words self) reply.old };
+
+    // They fit a reply.
+    ghost few: { (x : Self) → length (words x) ≤ 12 };
 }
 
 // An open's and a put's: none.
 impl ReplyWords for () {
     ghost words = { unit_words };
 
-    fn write(self, reply: &mut [u8]) {
+    ghost few = { λ x. lit≤ tt };
+
+    fn write(self, reply: &mut [u8; REPLY_SIZE]) {
         image::write_words(reply, 0, []);
     }
 }
@@ -170,7 +173,9 @@ impl ReplyWords for () {
 impl ReplyWords for Installed {
     ghost words = { installed_words };
 
-    fn write(self, reply: &mut [u8]) {
+    ghost few = { few_installed };
+
+    fn write(self, reply: &mut [u8; REPLY_SIZE]) {
         match self {
             Installed::Same => image::write_words(reply, 0, [0]),
             Installed::Fresh => image::write_words(reply, 0, [1]),
@@ -182,9 +187,11 @@ impl ReplyWords for Installed {
 impl ReplyWords for Option<U256> {
     ghost words = { value_words };
 
-    fn write(self, reply: &mut [u8]) {
+    ghost few = { few_held };
+
+    fn write(self, reply: &mut [u8; REPLY_SIZE]) {
         match self {
-            None => write_no_value(reply),
+            None => image::write_words(reply, 0, [0, 0, 0, 0, 0]),
             Some(v) => write_value(reply, v),
         }
     }
@@ -194,7 +201,9 @@ impl ReplyWords for Option<U256> {
 impl ReplyWords for DeltaReport {
     ghost words = { advance_words };
 
-    fn write(self, reply: &mut [u8]) {
+    ghost few = { few_advanced };
+
+    fn write(self, reply: &mut [u8; REPLY_SIZE]) {
         let outcome = self.outcome;
         match outcome {
             CarryOutcome::AlreadyCurrent => write_report(reply, 0, 0, 0, 0, self),
@@ -210,7 +219,9 @@ impl ReplyWords for DeltaReport {
 impl ReplyWords for ReadOutcome {
     ghost words = { read_words };
 
-    fn write(self, reply: &mut [u8]) {
+    ghost few = { few_read };
+
+    fn write(self, reply: &mut [u8; REPLY_SIZE]) {
         match self {
             ReadOutcome::Value(v) => write_value(reply, v),
             ReadOutcome::Waiting(n) => image::write_words(reply, 0, [0, n, 0, 0, 0]),
@@ -222,7 +233,9 @@ impl ReplyWords for ReadOutcome {
 impl ReplyWords for u64 {
     ghost words = { take_words };
 
-    fn write(self, reply: &mut [u8]) {
+    ghost few = { λ x. lit≤ tt };
+
+    fn write(self, reply: &mut [u8; REPLY_SIZE]) {
         image::write_words(reply, 0, [self]);
     }
 }
@@ -231,7 +244,9 @@ impl ReplyWords for u64 {
 impl ReplyWords for Answered {
     ghost words = { answered_words };
 
-    fn write(self, reply: &mut [u8]) {
+    ghost few = { λ x. lit≤ tt };
+
+    fn write(self, reply: &mut [u8; REPLY_SIZE]) {
         image::write_words(reply, 0, [self.members, self.errors, self.woken]);
     }
 }
@@ -240,7 +255,9 @@ impl ReplyWords for Answered {
 impl ReplyWords for RunEnd {
     ghost words = { run_words };
 
-    fn write(self, reply: &mut [u8]) {
+    ghost few = { few_run };
+
+    fn write(self, reply: &mut [u8; REPLY_SIZE]) {
         match self {
             RunEnd::Listed {
                 next,
@@ -260,7 +277,9 @@ impl ReplyWords for RunEnd {
 impl ReplyWords for ReadTotals {
     ghost words = { totals_words };
 
-    fn write(self, reply: &mut [u8]) {
+    ghost few = { λ x. lit≤ tt };
+
+    fn write(self, reply: &mut [u8; REPLY_SIZE]) {
         image::write_words(reply, 0, totals::words_of(self));
     }
 }
@@ -269,7 +288,9 @@ impl ReplyWords for ReadTotals {
 impl ReplyWords for SeedCounts {
     ghost words = { seed_words };
 
-    fn write(self, reply: &mut [u8]) {
+    ghost few = { λ x. lit≤ tt };
+
+    fn write(self, reply: &mut [u8; REPLY_SIZE]) {
         image::write_words(
             reply,
             0,
@@ -278,7 +299,7 @@ impl ReplyWords for SeedCounts {
     }
 }
 
-// A call's number, and the words of an accepted call.
+// A call's number, and the words of an accepted call, at the beginning of a reply that is long enough.
 pub fn write_reply<T: ReplyWords>(reply: &mut [u8], r: Result<T, Refusal>) -> u64
     requires { reply_size ≤ length reply.old }
     ensures { Gives result reply.new (reply_given T.words r) reply.old }
@@ -286,7 +307,9 @@ pub fn write_reply<T: ReplyWords>(reply: &mut [u8], r: Result<T, Refusal>) -> u6
     match r {
         Err(e) => e.number(),
         Ok(done) => {
-            done.write(reply);
+            if let Some(first) = reply.first_chunk_mut::<REPLY_SIZE>() {
+                done.write(first);
+            }
             ACCEPTED
         }
     }

@@ -19,17 +19,16 @@ use layers::{LentGeneration, LentStore};
 use model::delta_snapshot::Retention;
 use model::read_hub::ReadTotals;
 use model::refusal::Refusal;
+use model::storage_memo::U256;
 use reader::Cursor;
 
 // The bytes of a store of a capacity, and of an advance's work area; 0 for a capacity that an open refuses.
+#[tactic(auto, unfolding(model::specs::Refusals::capacity_out_of_range))]
 #[unsafe(no_mangle)]
 pub extern "C" fn poxilme_store_size(capacity: u64) -> u64
     ensures { result ≡ lent_size capacity }
 {
-    if capacity == 0 {
-        return 0;
-    }
-    if 4096 < capacity {
+    if capacity == 0 || 4096 < capacity {
         return 0;
     }
     (layout::RECORDS_OFFSET + layout::RECORD_SIZE * (capacity as usize)) as u64
@@ -401,8 +400,7 @@ pub extern "C" fn poxilme_look_unchecked(
     let generation = LentGeneration { bytes: s };
     let place = generation.top_place(t);
     let Some(row) = generation.served_row(place, t) else {
-        lent_calls::write_no_value(reply);
-        return 0;
+        return lent_calls::write_reply::<Option<U256>>(reply, Ok(None));
     };
     lent_calls::write_row(reply, s, row);
     0
@@ -431,8 +429,7 @@ pub extern "C" fn poxilme_get_unchecked(
     let generation = LentGeneration { bytes: s };
     let place = generation.top_place(t);
     let Some(row) = generation.served_row(place, t) else {
-        lent_calls::write_no_value(reply);
-        return 0;
+        return lent_calls::write_reply::<Option<U256>>(reply, Ok(None));
     };
     if !top::has_room(generation, place) {
         return Refusal::OverCapacity.number();

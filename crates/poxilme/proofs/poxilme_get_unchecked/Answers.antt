@@ -1,5 +1,5 @@
 -- `poxilme::poxilme_get_unchecked` meets its contract.
-use Rattle.std.specs.Prelude.{None}
+use Rattle.std.specs.Prelude.{None, Ok}
 use borrow.Author.Rules.{rules}
 use mathlib.Core.Path.{refl, sym, ap, ◌∙◌}
 use Rattle.model.specs.Contents.{own_value}
@@ -17,7 +17,7 @@ use Rattle.unchecked_calls.proofs.Guards.{by_guard}
 use Rattle.unchecked_calls.proofs.Here.{get_none}
 use Rattle.unchecked_calls.proofs.Turned.{plain_get}
 use Rattle.lent_calls.specs.ReplyWords.{refused_by}
-use Rattle.lent_calls.proofs.Giving.{refused_gives, valued_gives}
+use Rattle.lent_calls.proofs.Giving.{refused_gives, valued_gives, given_by, look_given}
 use Rattle.lent_calls.proofs.Kept.{keeps}
 use Rattle.poxilme.proofs.Owned.{slot_stepped, slot_exported, row_full, row_set}
 use Rattle.poxilme.proofs.poxilme_get_unchecked.Goals as goal
@@ -31,7 +31,11 @@ returns-in-Err c = (
 
 pub returns-in_default-served_row : goal.returns-in_default-served_row
 returns-in_default-served_row c = (
+<<<<<<< HEAD
   slot_exported get c.args.s.now c.args.number c.args.hash.now c.args.slot.now c.args.reply.now c.slot_enough.ensures c.if-not-slot_enough.false c.anchor-anchor.ensures c.slot-t.ensures (valued_gives None c.write_no_value.ensures)
+=======
+  slot_exported get c.args.s.now c.args.number c.args.hash.now c.args.slot.now c.args.reply.now c.slot_enough.ensures c.if-not-slot_enough.false c.anchor-anchor.ensures c.slot-t.ensures (given_by (look_given (Ok None)) c.write_reply.ensures)
+>>>>>>> db35429 (lent_calls, poxilme: a reply's words are written to an array of its size; laws that nothing cites are gone)
       (get_none (known_bytes _ (search rules)) (past_guard _ _ (decoded_some _ c.requires) (sym c.guard.ensures ∙ c.in_default.is)) _ None (no_row _ _ _ c.served_row.ensures c.in_default-served_row.is) refl),
   c.requires,
 )

@@ -1,5 +1,5 @@
 -- `poxilme::poxilme_look_unchecked` meets its contract.
-use Rattle.std.specs.Prelude.{None}
+use Rattle.std.specs.Prelude.{None, Ok}
 use borrow.Author.Rules.{rules}
 use mathlib.Core.Path.{sym, ap, ◌∙◌}
 use Rattle.model.specs.Contents.{own_value}
@@ -13,7 +13,7 @@ use Rattle.unchecked_calls.proofs.Guards.{by_guard}
 use Rattle.unchecked_calls.proofs.Here.{look_here}
 use Rattle.unchecked_calls.proofs.Turned.{plain_look}
 use Rattle.lent_calls.specs.ReplyWords.{refused_by}
-use Rattle.lent_calls.proofs.Giving.{refused_gives, valued_gives}
+use Rattle.lent_calls.proofs.Giving.{refused_gives, valued_gives, given_by, look_given}
 use Rattle.poxilme.proofs.Owned.{slot_exported}
 use Rattle.poxilme.proofs.poxilme_look_unchecked.Goals as goal
 
@@ -24,7 +24,7 @@ returns-in-Err c =
 
 pub returns-in_default-served_row : goal.returns-in_default-served_row
 returns-in_default-served_row c =
-    slot_exported look c.args.s.now c.args.number c.args.hash.now c.args.slot.now c.args.reply.now c.slot_enough.ensures c.if-not-slot_enough.false c.anchor-anchor.ensures c.slot-t.ensures (valued_gives None c.write_no_value.ensures)
+    slot_exported look c.args.s.now c.args.number c.args.hash.now c.args.slot.now c.args.reply.now c.slot_enough.ensures c.if-not-slot_enough.false c.anchor-anchor.ensures c.slot-t.ensures (given_by (look_given (Ok None)) c.write_reply.ensures)
     (look_here (known_bytes _ (search rules)) (past_guard _ _ (decoded_some _ c.requires) (sym c.guard.ensures ∙ c.in_default.is)) _ None (no_row _ _ _ c.served_row.ensures c.in_default-served_row.is))
 
 pub returns : goal.returns
