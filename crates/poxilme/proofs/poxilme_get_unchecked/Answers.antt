@@ -31,11 +31,7 @@ returns-in-Err c = (
 
 pub returns-in_default-served_row : goal.returns-in_default-served_row
 returns-in_default-served_row c = (
-<<<<<<< HEAD
-  slot_exported get c.args.s.now c.args.number c.args.hash.now c.args.slot.now c.args.reply.now c.slot_enough.ensures c.if-not-slot_enough.false c.anchor-anchor.ensures c.slot-t.ensures (valued_gives None c.write_no_value.ensures)
-=======
   slot_exported get c.args.s.now c.args.number c.args.hash.now c.args.slot.now c.args.reply.now c.slot_enough.ensures c.if-not-slot_enough.false c.anchor-anchor.ensures c.slot-t.ensures (given_by (look_given (Ok None)) c.write_reply.ensures)
->>>>>>> db35429 (lent_calls, poxilme: a reply's words are written to an array of its size; laws that nothing cites are gone)
       (get_none (known_bytes _ (search rules)) (past_guard _ _ (decoded_some _ c.requires) (sym c.guard.ensures ∙ c.in_default.is)) _ None (no_row _ _ _ c.served_row.ensures c.in_default-served_row.is) refl),
   c.requires,
 )
