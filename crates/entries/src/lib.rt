@@ -48,12 +48,18 @@ pub fn read_slot(s: &[u8], at: usize) -> Slot
     }
 }
 
-// Whether the address at `at` is the given one.
+// Whether the address at `at` is the given one. Compared in place, the last word first: most addresses that differ do so there.
 pub fn is_address(s: &[u8], at: usize, address: Address) -> bool
     requires { at + 20 ≤ length s.now }
     ensures { result ≡ address_eqb (address_of (drop at s.now)) address }
 {
-    read_address(s, at) == address
+    if words::read_u64(s, at + 12) != address.w2 {
+        return false;
+    }
+    if words::read_u64(s, at + 4) != address.w1 {
+        return false;
+    }
+    words::read_u32(s, at) == address.w0
 }
 
 // Whether an address is on a list of them, 20 bytes each.

@@ -1,16 +1,23 @@
--- `entries::is_address` meets its contract: the derived equality compares the words as the definition does.
-use mathlib.Core.Path.{◌≡◌, ap, ◌∙◌}
-use mathlib.Core.Bool.{◌&&◌}
-use lib.Dec.{eqb}
-use Rattle.std.proofs.lemmas.Grind.{common_steps}
-use native.Mathlib.Omega.{arith}
-use Rattle.model.specs.declared.storage_memo.Address.{Address}
-use Rattle.model.specs.Slots.{address_eqb, words_eqb}
+-- `entries::is_address` meets its contract. Assumes nothing.
+use mathlib.Core.Path.{◌∙◌}
+use lib.ListN.{drop}
+use Rattle.model.specs.Entries.{address_of}
+use Rattle.entries.proofs.Numbers.{number_in, last_differs, second_differs, first_decides}
 use Rattle.entries.proofs.is_address.Goals as goal
 
-word_by_word : (a b : Address) → (eqb a.w0 b.w0 && (eqb a.w1 b.w1 && eqb a.w2 b.w2)) ≡ address_eqb a b
-unfolding address_eqb words_eqb
-word_by_word a b = grind (arith, common_steps)
+pub returns-then-read_u64-address : goal.returns-then-read_u64-address
+returns-then-read_u64-address c =
+    let a = c.args in
+    last_differs (address_of (drop a.at a.s.now)) a.address c.read_u64.result (c.read_u64.ensures ∙ number_in 12 a.at 8 a.s.now) c.if-read_u64-address.true
+
+pub returns-then-read_u64-address-2 : goal.returns-then-read_u64-address-2
+returns-then-read_u64-address-2 c =
+    let a = c.args in
+    second_differs (address_of (drop a.at a.s.now)) a.address c.read_u64-2.result (c.read_u64-2.ensures ∙ number_in 4 a.at 8 a.s.now) c.if-read_u64-address-2.true
 
 pub returns : goal.returns
-returns c = c.eq.ensures ∙ word_by_word _ _ ∙ ap (λ (a : Address). address_eqb a c.args.address) c.read_address.ensures
+returns c =
+    let a = c.args in
+    first_decides (address_of (drop a.at a.s.now)) a.address c.read_u64.result c.read_u64-2.result c.read_u32.result
+    (c.read_u64.ensures ∙ number_in 12 a.at 8 a.s.now) c.if-read_u64-address.false
+    (c.read_u64-2.ensures ∙ number_in 4 a.at 8 a.s.now) c.if-read_u64-address-2.false c.read_u32.ensures
