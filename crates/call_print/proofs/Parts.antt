@@ -1,12 +1,13 @@
 -- What a run's answer says of the part that it makes. Assumes nothing.
 use Rattle.std.specs.Prelude.{Option, None, Some, Ok, Err, is_some}
-use Prim.Native.Nat.{ℕ, suc, ◌-◌, ◌<◌}
+use Prim.Native.Nat.{ℕ, suc, ◌-◌, ◌≤◌, ◌<◌}
 use mathlib.Core.Path.{◌≡◌, refl, sym, ap, subst, ◌∙◌}
 use mathlib.Core.Bool.{true, false, true≢false}
 use mathlib.Core.List.{List}
+use native.Mathlib.Nat.{min-le_left, min-le_right}
 use native.Mathlib.Omega.{arith}
 use borrow.Author.Tests.{leb-true, leb-false}
-use lib.ListN.{length}
+use lib.ListN.{length, take, length-take}
 use Rattle.reader.specs.declared.Cursor.{Cursor}
 use Rattle.model.specs.declared.refusal.Refusal.{Refusal}
 use Rattle.call_run.specs.Run.{RunReply}
@@ -58,6 +59,10 @@ module _ (w e : ℕ) (list : List ℕ) (from : ℕ) (members before out after ou
         more_is = λ n x. absurd (true≢false (sym (ap (λ (o : Option ℕ). is_some o) x)));
         within = omega (arith, u.written_within, u.same_length);
       }
+
+-- The bytes that are taken are the list's, and few enough.
+pub taken_within : (list : List ℕ) → (length (take 65536 list) ≤ length list) × (length (take 65536 list) ≤ 65536)
+taken_within list = (omega (arith, length-take 65536 list, min-le_right 65536 (length list)), omega (arith, length-take 65536 list, min-le_left 65536 (length list)))
 
 -- What is left of a list of n bytes from a next place on, and that it falls.
 abbrev pub left : ℕ → Option ℕ → ℕ

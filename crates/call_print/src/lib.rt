@@ -1,7 +1,7 @@
 // Prints the listing of a call list, on a store of 256 records that starts as zeros.
 #![tactic(auto)]
 
-ghost use Rattle.std.specs.Prelude.{◌≡◌, false, ◌/◌, ◌≤◌, length, IfOk};
+ghost use Rattle.std.specs.Prelude.{◌≡◌, false, ◌/◌, ◌≤◌, length, take, IfOk};
 ghost use Rattle.call_run.specs.Run.{too_short};
 ghost use Rattle.call_print.specs.Part.{PartAs};
 
@@ -87,10 +87,16 @@ fn print_parts<W: Write>(to: &mut W, list: &[u8]) -> io::Result<()>
     Ok(())
 }
 
+// The bytes of a list that are taken: the first 65,536.
+fn taken(list: &[u8]) -> &[u8]
+    ensures { result.now ≡ take 65536 list.now }
+{
+    &list[..list.len().min(65536)]
+}
+
 // Writes the listing of a list's first 65,536 bytes to a writer. What follows them is not read.
 pub fn print_listing<W: Write>(to: &mut W, list: &[u8]) -> io::Result<()> {
-    let taken = list.len().min(65536);
-    print_parts(to, &list[..taken])
+    print_parts(to, taken(list))
 }
 
 // Reads until the buffer is full or the input ends; how many bytes it got.
