@@ -5,9 +5,11 @@ use mathlib.Core.Path.{◌≡◌, refl, sym, ap, ◌∙◌}
 use mathlib.Core.List.{List, [], ◌∷◌, ◌++◌}
 use native.Mathlib.Omega.{arith}
 use lib.ListN.{length}
+use Rattle.model.specs.declared.delta_snapshot.Slot.{Slot}
 use Rattle.model.specs.Entries.{first_slots}
-use Rattle.model.specs.Store.{advanced, listed}
+use Rattle.model.specs.Store.{Report, opened, anchor_same, anchor_fresh, advanced, value, no_value, stored, waiting, listed, answered}
 use Rattle.model.specs.Refusals.{Answer, refuse, ok}
+use Rattle.model.proofs.EntryLaws.{SlotFits, Each}
 use Rattle.replies.specs.declared.DeltaReport.{DeltaReport}
 use Rattle.replies.specs.Replies.{delta_report}
 use Rattle.call_list.specs.Listing.{ascii, line, decimals, slot_lines, report_lines, answer_lines}
@@ -40,6 +42,47 @@ slots_reported (Answered m e w) out = refl
 pub slots_are : (r : CallReply) (out : List ℕ) → slots_listed r ≡ slots_told (reply_of r out)
 slots_are (Err e) out = refl
 slots_are (Ok a) out = slots_reported a out
+
+-- The slots that an answer of the model lists.
+abbrev pub listed_in : Report → List Slot
+listed_in opened = []
+listed_in anchor_same = []
+listed_in anchor_fresh = []
+listed_in (advanced d) = []
+listed_in (value v) = []
+listed_in no_value = []
+listed_in stored = []
+listed_in (waiting n) = []
+listed_in (listed ss) = ss
+listed_in (answered m e w) = []
+
+abbrev pub listed_slots : Answer → List Slot
+listed_slots (refuse n) = []
+listed_slots (ok r) = listed_in r
+
+-- Each slot that a take lists fits.
+abbrev pub SlotsFit : Answer → Type 0
+SlotsFit a = Each SlotFits (listed_slots a)
+
+-- They are as many as are told.
+pub listed_in_count : (r : Report) → listed_count r ≡ length (listed_in r)
+listed_in_count opened = refl
+listed_in_count anchor_same = refl
+listed_in_count anchor_fresh = refl
+listed_in_count (advanced d) = refl
+listed_in_count (value v) = refl
+listed_in_count no_value = refl
+listed_in_count stored = refl
+listed_in_count (waiting n) = refl
+listed_in_count (listed ss) = refl
+listed_in_count (answered m e w) = refl
+
+pub told_count : (a : Answer) → slots_told a ≡ length (listed_slots a)
+told_count (refuse n) = refl
+told_count (ok r) = listed_in_count r
+
+pub slots_listed_count : (r : CallReply) (out : List ℕ) → slots_listed r ≡ length (listed_slots (reply_of r out))
+slots_listed_count r out = slots_are r out ∙ told_count (reply_of r out)
 
 -- The lines -----------------------------------------------------------------------------------------------
 

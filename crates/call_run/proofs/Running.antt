@@ -24,7 +24,7 @@ use Rattle.words.specs.Parts.{placed}
 use Rattle.listing.proofs.Lengths.{refusal_line_length}
 use Rattle.call_answers.specs.Answers.{CallReply, reply_of}
 use Rattle.call_steps.specs.Steps.{with_lent, SteppedAs}
-use Rattle.call_steps.proofs.After.{store_after_is}
+use Rattle.call_steps.proofs.After.{store_after_reply}
 use Rattle.std.specs.Prelude.{None, is_some}
 use Rattle.reader.specs.declared.Fault.{Fault}
 use Rattle.reader.specs.Answers.{fault_number}
@@ -133,7 +133,7 @@ ran_call w entries list b out t after out_after r c p entries_after f h room par
     (reached_next list r whole)
     (s.bytes_is ∙ sym (final_one default_limits w e b c))
     (sym (ap₂ (λ (x y : List ℕ). x ++ y) (lines_one default_limits w e b c) (no_end r whole) ∙ append-nil (answer_lines o.answer)))
-    (known ∙ ap (λ (x : Bool). store_after x p) h.known_is ∙ sym (store_after_is b (with_lent k w entries) p entries_after (q.fits default_limits refl) s.answer_is) ∙ ap (λ (x : List ℕ). is_some (decode x)) (sym s.bytes_is))
+    (known ∙ ap (λ (x : Bool). store_after x p) h.known_is ∙ sym (store_after_reply b (with_lent k w entries) p entries_after (q.fits default_limits refl) s.answer_is) ∙ ap (λ (x : List ℕ). is_some (decode x)) (sym s.bytes_is))
     ended
 
 -- A fault, which ends the list.

@@ -3,17 +3,25 @@ use Rattle.replies.specs.declared.ReadOutcome.TheVariants.{Value, Waiting}
 use Rattle.replies.specs.declared.Installed.TheVariants.{Same, Fresh}
 use Rattle.std.proofs.lemmas.Result.{err_from_is_err_and}
 use Rattle.std.specs.Prelude.{None, Option, Some, IsErrAnd, Ok, Err}
-use Prim.Native.Nat.{ℕ}
+use Prim.Native.Nat.{ℕ, suc, ◌≤◌}
 use mathlib.Core.Path.{◌≡◌, refl, sym, ap, subst, ◌∙◌}
-use mathlib.Core.List.{List}
+use mathlib.Core.List.{List, [], ◌∷◌}
+use native.Mathlib.Omega.{arith}
+use lib.ListN.{length}
 use Rattle.model.specs.declared.storage_memo.ReadAnchor.{ReadAnchor}
 use Rattle.model.specs.declared.storage_memo.U256.{U256}
 use Rattle.model.specs.declared.delta_snapshot.Slot.{Slot}
 use Rattle.model.specs.declared.delta_snapshot.Retention.{Retention}
+use Rattle.model.specs.declared.storage_memo.Address.{Address}
+use Rattle.model.specs.Slots.{anchor_eqb}
+use Rattle.model.specs.Advance.{Write, WriteKind, overwrite, new, skip, AppliedWrites, DeltaReport, relevant, final_write_kind, apply_write, count_write, seed_final_writes, compact_base, seal, void_base, classify_link, skip_of, carries}
 use Rattle.model.specs.Reads.{Member}
+use Rattle.model.specs.Contents.{valued_use}
+use Rattle.model.specs.Layers.{Layer, find, freshest_use}
 use Rattle.model.specs.Entries.{slots_bytes}
-use Rattle.model.specs.Store.{look, get, put, read, on_slot, take, answer, answer_failed, Prepared, StoreCall, install, advance, at_anchor, Call, open_store, on_store, opened, stored}
+use Rattle.model.specs.Store.{Config, Generation, look, get, put, read, on_slot, take, answer, answer_failed, Prepared, StoreCall, install, advance, at_anchor, Call, open_store, on_store, Report, opened, advanced, stored, perform, carry, cold_advance}
 use Rattle.model.specs.Refusals.{Answer, refuse, ok, refusal_number, refusal, conditions, lent_too_short, output_short_of_queue, step}
+use Rattle.model.proofs.SlotLaws.{split}
 use Rattle.image.specs.Image.{decode, BytesResult, bytes_step}
 use Rattle.image.specs.Output.{output_after}
 use Rattle.replies.specs.Replies.{TakeReply, AdvanceReply, install_reply, look_reply, read_reply, take_reply, answer_reply, advance_reply, alone, with_output, Stepped, Took, AdvancedAs}
@@ -117,6 +125,36 @@ said_20 b c w e d =
 
 -- A take and an advance ---------------------------------------------------------------------------------
 
+-- The report of an advance of n writes.
+pub data IsAdvanced (n : ℕ) : Report → Type 0 where
+  is_advanced : (d : DeltaReport) → length d.writes.applied ≤ n → IsAdvanced n (advanced d)
+
+-- No more are applied than there are.
+count_few : (k : WriteKind) (s : Slot) (t : AppliedWrites) → length (count_write k s t).applied ≤ suc (length t.applied)
+count_few (overwrite u) s t = omega arith
+count_few new s t = omega arith
+count_few skip s t = omega arith
+
+applied_few : (R : Retention) (n : ℕ) (relevance : List Address) (b : List Layer) (ws : List Write) (l : Layer) → length (seed_final_writes R n relevance b ws l).applied_writes.applied ≤ length ws
+unfolding seed_final_writes
+applied_few R n relevance b [] l = omega arith
+applied_few R n relevance b (w ∷ ws) l =
+    let k : WriteKind = final_write_kind R n (relevant relevance w.slot.address) (valued_use (find w.slot l)) (freshest_use w.slot b) in
+    let t : Layer = apply_write n k w.slot w.value l in
+    omega (arith, applied_few R n relevance b ws t, count_few k w.slot (seed_final_writes R n relevance b ws t).applied_writes)
+
+module _ (child : ReadAnchor) (h : U256) (p : Prepared) where
+  pub reported : (cfg : Config) (o : Option Generation) → IsAdvanced (length p.writes) (perform cfg o (advance child h p)).report
+  unfolding perform carry cold_advance
+  reported cfg None = is_advanced _ (applied_few cfg.retention child.number p.relevance void_base p.writes [])
+  reported cfg (Some g) =
+      split (anchor_eqb g.anchor child)
+      (λ e. let z : 0 ≤ length p.writes = omega arith in rw e (is_advanced _ z))
+      (λ e. rw e (split (carries (classify_link (Some g.anchor) child h) (skip_of p.skip))
+      (λ y. rw y (is_advanced _ (applied_few cfg.retention child.number p.relevance (seal g.top (compact_base cfg.retention cfg.max_depth g.anchor.number g.base).base) p.writes [])))
+      (λ y. rw y (is_advanced _ (applied_few cfg.retention child.number p.relevance void_base p.writes [])))))
+
+-- A take, and an advance, answered.
 pub took_as : {r : CallReply} {t : TakeReply} {after out : List ℕ} (b : List ℕ) (w : ℕ) (e : List ℕ) (a : ReadAnchor) → reply_of r out ≡ take_reply t out → Took t after out e (bytes_step b (with_output (on_store (at_anchor a take)) e)) → SteppedAs r after out (bytes_step b (with_lent (on_store (at_anchor a take)) w e)) e
 took_as {r} {t} {after} {out} b w e a q s =
     let h : Took t after out e (bytes_step b (with_lent (on_store (at_anchor a take)) w e)) = subst (λ (o : BytesResult). Took t after out e o) (sym (as_take b w e a)) s in
