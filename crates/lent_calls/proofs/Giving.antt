@@ -23,7 +23,7 @@ use Rattle.replies.specs.Replies.{delta_report, open_reply, install_reply, look_
 use Rattle.seed.proofs.Entries.{length_chunks}
 use Rattle.final_writes.specs.Lent.{FinalWritesReply, final_writes_reply}
 use Rattle.lent_calls.specs.ReplyWords.{Given, refused_by, accepted, with_words, Gives, reply_given, answer_given, final_given, outcome_words, delta_words}
-use Rattle.lent_calls.specs.ReplyWords.{unit_words, installed_words, advance_words, read_words, take_words, answered_words, seed_words}
+use Rattle.lent_calls.specs.Inner.{unit_words, installed_words, advance_words, read_words, take_words, answered_words, seed_words}
 
 pub refused_gives : {reply : List ℕ} (n : ℕ) {x : Given} → x ≡ refused_by n → Gives n reply x reply
 refused_gives {reply} n q = subst (λ (y : Given). Gives n reply y reply) (sym q) (record { code_is = refl; reply_is = refl })

@@ -12,7 +12,8 @@ use Rattle.replies.specs.declared.ReadOutcome.{ReadOutcome}
 use Rattle.replies.specs.declared.ReadOutcome.TheVariants.{Value as valued, Waiting}
 use Rattle.call_run.specs.declared.RunEnd.{RunEnd}
 use Rattle.call_run.specs.declared.RunEnd.TheVariants.{Listed, Broken}
-use Rattle.lent_calls.specs.ReplyWords.{installed_words, outcome_words, count_words, advance_words, read_words, run_words}
+use Rattle.lent_calls.specs.ReplyWords.{outcome_words, run_words}
+use Rattle.lent_calls.specs.Inner.{installed_words, count_words, advance_words, read_words}
 
 pub few_installed : (x : Installed) → length (installed_words x) ≤ 12
 few_installed Same = omega arith

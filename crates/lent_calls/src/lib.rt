@@ -8,11 +8,13 @@ ghost use Rattle.model.specs.Slots.{u256_words};
 ghost use Rattle.model.specs.Contents.{own_value, has_value, value_words};
 ghost use Rattle.model.specs.Entries.{slot_of, u256_at};
 ghost use Rattle.image.specs.Image.{totals_words};
+ghost use Rattle.replies.specs.Replies.{open_reply, put_reply};
 ghost use Rattle.layers.specs.Answers.{row_content};
 ghost use Rattle.header.specs.Header.{lent_anchor};
 ghost use Rattle.lent_calls.specs.Arguments.{reply_size, reply_enough, hash_enough, anchored_enough, slot_enough, put_enough, advance_enough, lent_cap};
 ghost use Rattle.lent_calls.specs.Few.{few_installed, few_held, few_advanced, few_read, few_run};
-ghost use Rattle.lent_calls.specs.ReplyWords.{with_words, Gives, reply_given, count_words, unit_words, installed_words, advance_words, read_words, take_words, answered_words, run_words, seed_words};
+ghost use Rattle.lent_calls.specs.ReplyWords.{with_words, code_of, answer_given, Gives, reply_given, run_words};
+ghost use Rattle.lent_calls.specs.Inner.{count_words, unit_words, installed_words, advance_words, read_words, take_words, answered_words, seed_words};
 
 use call_run::RunEnd;
 use final_writes::SeedCounts;
@@ -20,7 +22,7 @@ use model::delta_snapshot::Slot;
 use model::read_hub::{CarryOutcome, ReadTotals};
 use model::refusal::Refusal;
 use model::storage_memo::{ReadAnchor, U256};
-use replies::{Answered, DeltaReport, Installed, ReadOutcome};
+use replies::{Answered, DeltaReport, Installed, OpenReply, PutReply, ReadOutcome};
 
 // The bytes that a lent reply has at least.
 pub const REPLY_SIZE: usize = 96;
@@ -313,4 +315,23 @@ pub fn write_reply<T: ReplyWords>(reply: &mut [u8], r: Result<T, Refusal>) -> u6
             ACCEPTED
         }
     }
+}
+
+// The number of an open's reply, which has no words.
+#[tactic(auto, using(crate::proofs::Giving::open_given))]
+pub fn open_code(r: OpenReply) -> u64
+    ensures { result ≡ code_of (answer_given (open_reply r)) }
+{
+    match r {
+        Err(refusal) => refusal.number(),
+        Ok(()) => ACCEPTED,
+    }
+}
+
+// The number of a put's reply, which has none either.
+#[tactic(auto, using(crate::proofs::Giving::put_given))]
+pub fn put_code(r: PutReply) -> u64
+    ensures { result ≡ code_of (answer_given (put_reply r)) }
+{
+    open_code(r)
 }

@@ -51,6 +51,13 @@ pub fn classify_link(store: LentStore, child: ReadAnchor, parent_hash: B256) -> 
     classify_hash(generation, parent_hash)
 }
 
+// The skip of a number, also of one above 3, which `TryFrom` refuses.
+pub fn skip_of(k: u64) -> BalSkip
+    ensures { result ≡ advance.skip_of k }
+{
+    BalSkip::try_from(k).unwrap_or(BalSkip::Decode)
+}
+
 // Whether an advance carries: linked, and its list read.
 pub fn carries(l: Lineage, k: BalSkip) -> bool
     ensures { result ≡ advance.carries l k }

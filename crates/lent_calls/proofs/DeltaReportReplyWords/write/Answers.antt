@@ -3,7 +3,8 @@ use Prim.Native.Nat.{ℕ}
 use mathlib.Core.Path.{◌≡◌, sym, ap, ap₂, ◌∙◌}
 use mathlib.Core.List.{List, ◌∷◌, [], ◌++◌}
 use Rattle.model.specs.declared.read_hub.CarryOutcome.TheVariants.{Cold}
-use Rattle.lent_calls.specs.ReplyWords.{with_words, outcome_words, count_words}
+use Rattle.lent_calls.specs.ReplyWords.{with_words, outcome_words}
+use Rattle.lent_calls.specs.Inner.{count_words}
 use Rattle.lent_calls.proofs.DeltaReportReplyWords.write.Goals as goal
 
 pub returns-in-Cold : goal.returns-in-Cold
