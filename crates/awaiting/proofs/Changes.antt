@@ -12,13 +12,13 @@ use Rattle.layout.specs.Layout.{awaiting_size, awaiting_table_size, waiters_offs
 use Rattle.model.specs.declared.delta_snapshot.Slot.{Slot}
 use Rattle.model.specs.Numbers.{be}
 use Rattle.model.specs.Slots.{slot_words, slot_eqb, mem}
-use Rattle.model.specs.Reads.{Pending, is_awaiting, join, remove_pending, remove_all_pending, woken, has_duplicate}
+use Rattle.model.specs.Reads.{Pending, is_awaiting, join, take_queued, remove_pending, remove_all_pending, woken, has_duplicate}
 use Rattle.model.proofs.SlotLaws.{split}
 use Rattle.words.specs.Parts.{part, placed}
 use Rattle.image.specs.Image.{bytes_of, pending_words}
-use Rattle.image.specs.WellFormed.{pending_ok, all_waiters}
+use Rattle.image.specs.WellFormed.{slot_fits, pending_ok, all_waiters}
 use Rattle.image.specs.Area.{pending_of, with_pending}
-use Rattle.image.proofs.PendingOk.{length_join, remove_all_ok, all_waiters_remove_all}
+use Rattle.image.proofs.PendingOk.{join_ok, all_waiters_join, length_join, take_ok, all_waiters_take, length_take_queued, remove_all_ok, all_waiters_remove_all}
 use Rattle.awaiting.specs.Awaiting.{entry_at, Ready, Holds}
 use Rattle.awaiting.proofs.Places.{pending_at, FoundAt, AbsentAt, NotAmong}
 use Rattle.awaiting.proofs.Awaits.{length_pending_of, pending_is}
@@ -147,3 +147,38 @@ one_removed n k m t s₀ s b h r e f =
       reads_as = a.1;
       from_first = ap (λ (y : List Pending). with_pending n y s₀) a.1 ∙ sym (with_twice n k q p s₀ l h (omega arith)) ∙ ap (with_pending k p) e ∙ sym f.bytes_are;
     }
+
+-- What each change leaves is ready for the next ------------------------------------------------------------
+
+pub after_join : (n k : ℕ) (t : Slot) (s b : List ℕ) → Ready n s → slot_fits t ≡ true → suc (all_waiters (pending_of n s)) < 2 ^ 32 → length (join t (pending_of n s)) ≤ 64
+    → Holds k b n (join t (pending_of n s)) s → Ready k b × (pending_of k b ≡ join t (pending_of n s))
+after_join n k t s b r f w l h =
+    let q = pending_of n s in
+    let c : k ≡ length (join t q) = h.count_is in
+    ready_after n k (join t q) s b r h (join_ok t q f r.ok) (omega (arith, all_waiters_join t q)) (omega arith)
+
+pub after_take : (n : ℕ) (s b : List ℕ) → Ready n s → b ≡ with_pending n (take_queued (pending_of n s)) s → Ready n b × (pending_of n b ≡ take_queued (pending_of n s))
+after_take n s b r e =
+    let q = pending_of n s in
+    let h : Holds n b n (take_queued q) s = record { count_is = sym (length_take_queued q ∙ length_pending_of n s); bytes_are = e } in
+    let w : all_waiters q < 2 ^ 32 = r.waiters_fit in
+    ready_after n n (take_queued q) s b r h (take_ok q ∙ r.ok) (omega (arith, all_waiters_take q)) r.few
+
+length_remove_all_le : (ss : List Slot) (q : List Pending) → length (remove_all_pending ss q) ≤ length q
+unfolding remove_all_pending
+length_remove_all_le [] q = omega arith
+length_remove_all_le (t ∷ ss) q = omega (arith, length_remove_all_le ss (remove_pending t q), length_remove_le t q)
+
+all_waiters_all_less : (ss : List Slot) (q : List Pending) → all_waiters (remove_all_pending ss q) ≤ all_waiters q
+unfolding remove_all_pending
+all_waiters_all_less [] q = omega arith
+all_waiters_all_less (t ∷ ss) q = omega (arith, all_waiters_all_less ss (remove_pending t q), all_waiters_less t q)
+
+pub after_remove_all : (n k : ℕ) (ss : List Slot) (s b : List ℕ) → Ready n s → Holds k b n (remove_all_pending ss (pending_of n s)) s → Ready k b × (pending_of k b ≡ remove_all_pending ss (pending_of n s))
+after_remove_all n k ss s b r h =
+    let q = pending_of n s in
+    let c : k ≡ length (remove_all_pending ss q) = h.count_is in
+    let l : length q ≡ n = length_pending_of n s in
+    let few : n ≤ 64 = r.few in
+    let w : all_waiters q < 2 ^ 32 = r.waiters_fit in
+    ready_after n k (remove_all_pending ss q) s b r h (remove_all_ok ss q r.ok) (omega (arith, all_waiters_all_less ss q)) (omega (arith, length_remove_all_le ss q))

@@ -46,6 +46,10 @@ module _ (R : Retention) (now n : ℕ) (s ix : List ℕ) (b : Bytes s) (h : n * 
       (λ u m. drops_is R now (records_of n s) u m)
 
 -- The record chosen.
+pub choose_le : (b : Bool) (x y m : ℕ) → x ≤ m → y ≤ m → cond b x y ≤ m
+choose_le true x y m h k = h
+choose_le false x y m h k = k
+
 pub choose_best : (rs : Layer) (b : Bool) (x y : ℕ) → get_or rs (cond b x y) no_record ≡ cond b (get_or rs x no_record) (get_or rs y no_record)
 choose_best rs true x y = refl
 choose_best rs false x y = refl

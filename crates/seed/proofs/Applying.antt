@@ -160,6 +160,10 @@ module _ (r : Option Kind) (after b addresses : List ℕ) (s : Slot) (v : Value)
   pub wrote_full : Wrote r after b addresses s v → r ≡ None → has_room_for (top_after b addresses s v) b ≡ false
   wrote_full h e = none_false _ (kind_in b addresses s) (ap applied_kind (sym e) ∙ h.answer_is)
 
+  -- The bytes stay where there is no room.
+  pub wrote_same : Wrote r after b addresses s v → r ≡ None → after ≡ b
+  wrote_same h e = h.bytes_are ∙ ap (λ (x : Bool). cond x (retopped (top_after b addresses s v) b) b) (wrote_full h e)
+
   module _ (w : Kind) where
     pub wrote_done : Wrote r after b addresses s v → r ≡ Some w → (has_room_for (top_after b addresses s v) b ≡ true) × (kind_of w ≡ kind_in b addresses s)
     wrote_done h e = some_true _ (kind_of w) (kind_in b addresses s) (ap applied_kind (sym e) ∙ h.answer_is)

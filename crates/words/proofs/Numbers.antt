@@ -1,11 +1,12 @@
--- The number of a part of bytes: one byte more; the bytes of a number, and the number that bytes give, as std's methods have them.
+-- The number of a part of bytes: one byte more, two parts joined; the bytes of a number, and the number that bytes give, as std's methods have them.
 use mathlib.Core.Path.{◌≡◌, refl, ap, ap₂, subst, ◌∙◌}
 use mathlib.Core.List.{List, [], ◌∷◌, ◌++◌}
 use Prim.Native.Nat.{ℕ, zero, suc, ◌+◌, ◌*◌, ◌/◌, ◌%◌, ◌^◌, ◌≤◌, ◌<◌}
-use native.Mathlib.Nat.{pow-suc, mul_comm, div-div-eq-div-mul}
+use native.Mathlib.Nat.{pow-suc, pow-le-pow_right, mul_comm, mul_assoc, mul-one, add-zero, div-div-eq-div-mul}
 use native.Mathlib.Numerals.{add-one}
 use native.Mathlib.Omega.{arith}
 use mir.Syntax.{w32, w64}
+use lib.Dec.{lit<}
 use lib.ListN.{length, drop, get_or, length-drop}
 use lib.Seq.{take-suc, get_or-drop}
 use Rattle.std.specs.Int.{byte_at, bytes_high_first, from_be_bytes}
@@ -13,7 +14,7 @@ use Rattle.model.specs.Numbers.{be, num_from, num, Bytes}
 use Rattle.model.proofs.NumberLaws.{num_from_snoc}
 use Rattle.words.specs.Parts.{part}
 
-num_snoc : (l : List ℕ) (x : ℕ) → num (l ++ (x ∷ [])) ≡ num l * 256 + x
+pub num_snoc : (l : List ℕ) (x : ℕ) → num (l ++ (x ∷ [])) ≡ num l * 256 + x
 num_snoc l x = num_from_snoc 0 l x
 
 -- one byte more of a part
@@ -26,6 +27,31 @@ num_more at i x s h e = rw (part_more at i s, num_snoc, e)
 -- a number of i digits with one digit more
 pub more_fits : (i x y : ℕ) → x < 256 ^ i → y < 256 → x * 256 + y < 256 ^ (i + 1)
 more_fits i x y h k = rw (add-one, pow-suc) (omega arith)
+
+-- a number of fewer than eight digits
+pub seven : (i x : ℕ) → x < 256 ^ i → i < 8 → x < 2 ^ 56
+seven i x h k =
+    let q : i ≤ 7 = omega arith in
+    let p : 256 ^ i ≤ 256 ^ 7 = pow-le-pow_right (lit< tt) q in
+    omega arith
+
+-- the first i bytes of a part, then k more
+pub num_join : (at i k : ℕ) (s : List ℕ) → at + (i + k) ≤ length s
+    → num (part at (i + k) s) ≡ num (part at i s) * 256 ^ k + num (part (at + i) k s)
+unfolding num_from
+num_join at i zero s h = simp (add-zero, mul-one)
+num_join at i (suc k) s h =
+    let ih : num (part at (i + k) s) ≡ num (part at i s) * 256 ^ k + num (part (at + i) k s) = num_join at i k s (omega arith) in
+    let p : num (part at (i + k) s) * 256 + get_or s (at + (i + k)) 0 ≡ num (part at (i + k + 1) s) = num_more at (i + k) _ s (omega arith) refl in
+    let q : num (part (at + i) k s) * 256 + get_or s (at + i + k) 0 ≡ num (part (at + i) (k + 1) s) = num_more (at + i) k _ s (omega arith) refl in
+    let e : i + k + 1 ≡ i + suc k = omega arith in
+    let f : k + 1 ≡ suc k = omega arith in
+    let g : at + (i + k) ≡ at + i + k = omega arith in
+    let b : get_or s (at + (i + k)) 0 ≡ get_or s (at + i + k) 0 = ap (λ (n : ℕ). get_or s n 0) g in
+    let m : num (part at i s) * 256 ^ suc k ≡ num (part at i s) * 256 ^ k * 256 = rw (pow-suc 256 k, mul_assoc) in
+    let p' : num (part at (i + k + 1) s) ≡ num (part at (i + suc k) s) = ap (λ (n : ℕ). num (part at n s)) e in
+    let q' : num (part (at + i) (k + 1) s) ≡ num (part (at + i) (suc k) s) = ap (λ (n : ℕ). num (part (at + i) n s)) f in
+    omega arith
 
 -- the number of k bytes is below 256^k
 pub num_below : (at k : ℕ) (s : List ℕ) → Bytes s → at + k ≤ length s → num (part at k s) < 256 ^ k
